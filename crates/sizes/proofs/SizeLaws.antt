@@ -1,0 +1,29 @@
+-- One law for each answer of the size calculation and of set-up. Assumes nothing.
+use mathlib.Core.Path.{_≡_, refl, sym, _∙_}
+use Prim.Native.Nat.{ℕ, _-_, _/_, _≤_, _<_}
+use borrow.Author.Tests.{lt-ltb, le-ltb, eq-eqb, ne-eqb}
+use Rattle.sizes.specs.Sizes.{largestLimit, smallestFigure, largestFigure, setupFor, entriesFor}
+use Rattle.sizes.specs.declared.Sizing.the-variants.{Entries, TooSmall, TooLarge}
+use Rattle.sizes.specs.declared.Setup.the-variants.{Done, ShortStore, BadLimit}
+
+pub too-small : (B : ℕ) → B < 4128 → TooSmall ≡ entriesFor B
+too-small B h = rw (lt-ltb B 4128 h)
+
+pub too-large : (B : ℕ) → 4128 ≤ B → 33558559 < B → TooLarge ≡ entriesFor B
+too-large B l h = rw (le-ltb B 4128 l, lt-ltb 33558559 B h)
+
+pub right-size : (B : ℕ) → 4128 ≤ B → B ≤ 33558559 → Entries ((B - 4096) / 32) ≡ entriesFor B
+right-size B l h = rw (le-ltb B 4128 l, le-ltb 33558559 B h)
+
+module _ (need : ℕ → ℕ) (words limit : ℕ) where
+  pub no-limit : limit ≡ 0 → BadLimit ≡ setupFor need words limit
+  no-limit e = rw (eq-eqb limit 0 e)
+
+  pub large-limit : (limit ≡ 0 → ⊥) → 1048576 < limit → BadLimit ≡ setupFor need words limit
+  large-limit n h = rw (ne-eqb limit 0 n, lt-ltb 1048576 limit h)
+
+  pub short-store : (limit ≡ 0 → ⊥) → limit ≤ 1048576 → words < need limit → ShortStore ≡ setupFor need words limit
+  short-store n l h = rw (ne-eqb limit 0 n, le-ltb 1048576 limit l, lt-ltb words (need limit) h)
+
+  pub enough-store : (limit ≡ 0 → ⊥) → limit ≤ 1048576 → need limit ≤ words → Done ≡ setupFor need words limit
+  enough-store n l h = rw (ne-eqb limit 0 n, le-ltb 1048576 limit l, le-ltb words (need limit) h)

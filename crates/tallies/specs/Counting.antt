@@ -1,0 +1,41 @@
+-- "Five numbers in one record that the caller keeps and lends": hits, misses (with a match), drops, evicted, removed by updates.
+-- "Tallies wrap at 2^32 as Counter32 of RFC 2578 does; the difference of two readings is taken the same way." Assumes nothing.
+use Prim.Native.Nat.{ℕ, _+_, _-_, _%_, _^_}
+use Rattle.tallies.specs.declared.Tallies.{Tallies}
+
+-- n more, and n less, modulo 2 ^ 32
+abbrev pub plus : ℕ → ℕ → ℕ
+plus x n = (x + n) % 2 ^ 32
+
+abbrev pub minus : ℕ → ℕ → ℕ
+minus x n = (x + (2 ^ 32 - n)) % 2 ^ 32
+
+abbrev pub zeroTallies : Tallies
+zeroTallies = record { hits = 0; misses = 0; drops = 0; evicted = 0; removed = 0 }
+
+-- what each call moves
+abbrev pub afterHit : Tallies → Tallies
+afterHit t = record { hits = plus (t .hits) 1; misses = t .misses; drops = t .drops; evicted = t .evicted; removed = t .removed }
+
+abbrev pub afterMiss : Tallies → ℕ → Tallies
+afterMiss t n = record { hits = t .hits; misses = plus (t .misses) 1; drops = t .drops; evicted = plus (t .evicted) n; removed = t .removed }
+
+abbrev pub afterDrop : Tallies → Tallies
+afterDrop t = record { hits = t .hits; misses = t .misses; drops = plus (t .drops) 1; evicted = t .evicted; removed = t .removed }
+
+abbrev pub afterUpdate : Tallies → ℕ → Tallies
+afterUpdate t n = record { hits = t .hits; misses = t .misses; drops = t .drops; evicted = t .evicted; removed = plus (t .removed) n }
+
+-- the difference of two readings
+abbrev pub difference : Tallies → Tallies → Tallies
+difference now then = record {
+  hits = minus (now .hits) (then .hits);
+  misses = minus (now .misses) (then .misses);
+  drops = minus (now .drops) (then .drops);
+  evicted = minus (now .evicted) (then .evicted);
+  removed = minus (now .removed) (then .removed);
+}
+
+-- "entries held = misses - evicted - removed, modulo 2^32"
+abbrev pub heldSum : Tallies → ℕ
+heldSum t = minus (minus (t .misses) (t .evicted)) (t .removed)
