@@ -1,0 +1,13 @@
+pub mod Next
+pub mod Descent
+pub mod Searching
+pub mod Growing
+pub mod Insertions
+pub mod Placing
+pub mod Cutting
+pub mod Moving
+pub mod Removing
+pub mod Pigeonhole
+pub mod Counting
+pub mod Checking
+pub mod NodeSet
