@@ -1,7 +1,7 @@
 // The five tallies of a cache, by value: each call's count goes in and the next record comes out. They wrap at 2^32 as
 // Counter32 of RFC 2578 does, so only the difference of two readings says how much happened between them.
 ghost use mathlib.Core.Path.{_≡_};
-ghost use Rattle.tallies.specs.Counting.{minus, zeroTallies, afterHit, afterMiss, afterDrop, afterUpdate, difference, heldSum};
+ghost use Rattle.tallies.specs.Counting.{plus, minus, zeroTallies, afterHit, afterMiss, afterDrop, afterUpdate, difference, heldSum};
 
 pub struct Tallies {
     pub hits: u32,
@@ -9,6 +9,19 @@ pub struct Tallies {
     pub drops: u32,
     pub evicted: u32,
     pub removed: u32,
+}
+
+// n more than x, and n less: a counter that passes its end starts again from 0.
+fn more(x: u32, n: u32) -> u32
+    ensures { λ r. ⌜ r ≡ plus x n ⌝ }
+{
+    std::num::wrapping_add_u32(x, n)
+}
+
+fn less(x: u32, n: u32) -> u32
+    ensures { λ r. ⌜ r ≡ minus x n ⌝ }
+{
+    std::num::wrapping_sub_u32(x, n)
 }
 
 // The record to start from.
@@ -29,7 +42,7 @@ pub fn count_hit(t: Tallies) -> Tallies
     ensures { λ r. ⌜ r ≡ afterHit t ⌝ }
 {
     let mut next = t;
-    next.hits = std::num::wrapping_add_u32(t.hits, 1);
+    next.hits = more(t.hits, 1);
     next
 }
 
@@ -38,8 +51,8 @@ pub fn count_miss(t: Tallies, evicted: u32) -> Tallies
     ensures { λ r. ⌜ r ≡ afterMiss t evicted ⌝ }
 {
     let mut next = t;
-    next.misses = std::num::wrapping_add_u32(t.misses, 1);
-    next.evicted = std::num::wrapping_add_u32(t.evicted, evicted);
+    next.misses = more(t.misses, 1);
+    next.evicted = more(t.evicted, evicted);
     next
 }
 
@@ -48,7 +61,7 @@ pub fn count_drop(t: Tallies) -> Tallies
     ensures { λ r. ⌜ r ≡ afterDrop t ⌝ }
 {
     let mut next = t;
-    next.drops = std::num::wrapping_add_u32(t.drops, 1);
+    next.drops = more(t.drops, 1);
     next
 }
 
@@ -57,14 +70,8 @@ pub fn count_removed(t: Tallies, removed: u32) -> Tallies
     ensures { λ r. ⌜ r ≡ afterUpdate t removed ⌝ }
 {
     let mut next = t;
-    next.removed = std::num::wrapping_add_u32(t.removed, removed);
+    next.removed = more(t.removed, removed);
     next
-}
-
-fn less(x: u32, n: u32) -> u32
-    ensures { λ r. ⌜ r ≡ minus x n ⌝ }
-{
-    std::num::wrapping_sub_u32(x, n)
 }
 
 // What was counted between two readings.
