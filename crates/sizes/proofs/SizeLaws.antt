@@ -1,8 +1,11 @@
 -- One law for each answer of the size calculation and of set-up. Assumes nothing.
-use mathlib.Core.Path.{_≡_, refl, sym, _∙_}
+use mathlib.Core.Path.{_≡_, refl}
+use mathlib.Core.Bool.{Bool, true, false, cond, _||_}
 use Prim.Native.Nat.{ℕ, _-_, _/_, _≤_, _<_}
-use borrow.Author.Tests.{lt-ltb, le-ltb, eq-eqb, ne-eqb}
-use Rattle.sizes.specs.Sizes.{largestLimit, smallestFigure, largestFigure, setupFor, entriesFor}
+use native.Mathlib.Omega.{arith}
+use lib.Dec.{eqb, ltb}
+use borrow.Author.Tests.{lt-ltb, le-ltb, eq-eqb, ne-eqb, eqb-false, ltb-false}
+use Rattle.sizes.specs.Sizes.{LegalLimit, setupFor, entriesFor}
 use Rattle.sizes.specs.declared.Sizing.the-variants.{Entries, TooSmall, TooLarge}
 use Rattle.sizes.specs.declared.Setup.the-variants.{Done, ShortStore, BadLimit}
 
@@ -14,6 +17,9 @@ too-large B l h = rw (le-ltb B 4128 l, lt-ltb 33558559 B h)
 
 pub right-size : (B : ℕ) → 4128 ≤ B → B ≤ 33558559 → Entries ((B - 4096) / 32) ≡ entriesFor B
 right-size B l h = rw (le-ltb B 4128 l, le-ltb 33558559 B h)
+
+positive : (n : ℕ) → (n ≡ 0 → ⊥) → 1 ≤ n
+positive n h = omega arith
 
 module _ (need : ℕ → ℕ) (words limit : ℕ) where
   pub no-limit : limit ≡ 0 → BadLimit ≡ setupFor need words limit
@@ -27,3 +33,14 @@ module _ (need : ℕ → ℕ) (words limit : ℕ) where
 
   pub enough-store : (limit ≡ 0 → ⊥) → limit ≤ 1048576 → need limit ≤ words → Done ≡ setupFor need words limit
   enough-store n l h = rw (ne-eqb limit 0 n, le-ltb 1048576 limit l, le-ltb words (need limit) h)
+
+  -- what an accepted set-up says of the limit and the store, and back
+  pub setup-done : setupFor need words limit ≡ Done → LegalLimit limit × (need limit ≤ words)
+  setup-done e = go (eqb limit 0) refl (ltb 1048576 limit) refl (ltb words (need limit)) refl e
+    where
+      go : (a : Bool) → eqb limit 0 ≡ a → (b : Bool) → ltb 1048576 limit ≡ b → (s : Bool) → ltb words (need limit) ≡ s
+          → cond (a || b) BadLimit (cond s ShortStore Done) ≡ Done → LegalLimit limit × (need limit ≤ words)
+      go true ea b eb s es d = let z : _≡_ {A = ℕ} 0 1 = cc in absurd (omega arith)
+      go false ea true eb s es d = let z : _≡_ {A = ℕ} 0 1 = cc in absurd (omega arith)
+      go false ea false eb true es d = let z : _≡_ {A = ℕ} 0 1 = cc in absurd (omega arith)
+      go false ea false eb false es d = ((positive limit (eqb-false limit 0 ea), ltb-false 1048576 limit eb), ltb-false words (need limit) es)
