@@ -1,0 +1,4 @@
+pub mod ListLaws
+pub mod Match
+pub mod Updates
+pub mod Legal
