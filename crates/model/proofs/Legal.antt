@@ -16,7 +16,7 @@ use Rattle.prefix.proofs.Order.{take-⊑, ⊑-length, ⊑-refl}
 use Rattle.prefix.proofs.Tests.{apart-sym, not-⊑, strict-⊑, ⊑-contains}
 use Rattle.model.specs.Demands.{AllFull, Covered, Full, Hop, Legal, LegalState, Longest, NoLonger, Standing, Storable, and-calls, announced, kept, no-calls}
 use Rattle.model.specs.Lists.{Pairwise, _∈_, first, keep, omit, p-cons, p-nil}
-use Rattle.model.specs.Model.{Limits, fresh, leaves, lookCache, lookTable, lookup, newLength, refreshed, refusal, stays}
+use Rattle.model.specs.Model.{Limits, fresh, leaves, lookCache, lookTable, lookup, newLength, refreshed, refusal}
 use Rattle.model.specs.Routes.{Action, Route, Update, announce, held, match, updated, withAnnounced, withdraw}
 use Rattle.model.specs.Runs.{Call, State, accepted, after, empty, judged, look, looked, step, update}
 use Rattle.model.proofs.ListLaws.{Pairwise-keep, Pairwise-map, Pairwise-omit, Pairwise-take, any-in, first-in, first-none, first-omit, keep-in, keep-length, keep-lt, map-in, omit-in, omit-length, take-in}
@@ -134,7 +134,7 @@ pub record Allowed (L : Limits) (t : List Route) (u : Update) : Type 0 where
   pub fits : length (updated t u) ≤ L .routes
 
 pub legal-updated : {L : Limits} {t c : List Route} (u : Update) → Allowed L t u → Legal L t c → Legal L (updated t u) (refreshed (updated t u) u c)
-unfolding refreshed fresh stays
+unfolding refreshed fresh
 legal-updated {L} {t} {c} u A S = record {
   distinct = updated-distinct t u (S .distinct);
   routes-short = λ r m. short r (updated-in t u r m);

@@ -2,3 +2,6 @@ pub mod ListLaws
 pub mod Match
 pub mod Updates
 pub mod Legal
+pub mod NodeLaws
+pub mod HeldSum
+pub mod SameRoutes

@@ -14,7 +14,7 @@ use Rattle.prefix.proofs.Order.{⊑-length, ⊑-of-eq}
 use Rattle.prefix.proofs.Tests.{apart-⊑, contains-⊑, eq-same, ne-same, same-eq, strict-⊑, ⊑-contains}
 use Rattle.model.specs.Demands.{Covered, Distinct, Leaving, Longest, Standing, announced, kept, route-inside, uncovered, withdrawn}
 use Rattle.model.specs.Lists.{_∈_, any, keep, p-cons}
-use Rattle.model.specs.Model.{fresh, hopOf, leaves, refreshed, stays, withdraws}
+use Rattle.model.specs.Model.{fresh, hopOf, leaves, refreshed, withdraws}
 use Rattle.model.specs.Routes.{Action, Route, Update, announce, match, updated, withAnnounced, withdraw}
 use Rattle.model.proofs.ListLaws.{Pairwise-keep, any-false, any-in, in-any, in-keep, keep-in, none-any}
 use Rattle.model.proofs.Match.{longest-match, match-agree, match-longest, match-none, one-each}
@@ -142,7 +142,7 @@ fresh-pre t e = refl
 -- the entries that do not overlap the updated prefix are the same list as before
 pub apart-same : (t : List Route) (u : Update) (c : List Route) → Distinct t → ((e : Route) → e ∈ c → Covered t e)
     → keep (λ e. not (overlap (e .prefix) (u .prefix))) (refreshed (updated t u) u c) ≡ keep (λ e. not (overlap (e .prefix) (u .prefix))) c
-unfolding refreshed keep stays
+unfolding refreshed keep
 apart-same t u [] d E = refl
 apart-same t u (e ∷ c) d E = go (overlap (e .prefix) (u .prefix)) refl (leaves (updated t u) u e) refl (apart-same t u c d (λ x m. E x (List·Memᴰ·tail m)))
   where

@@ -96,9 +96,6 @@ leaves table u E =
     || not (any (λ R. contains (R .prefix) (E .prefix)) table)
     || (withdraws (u .action) && same (u .prefix) (E .prefix))
 
-unfoldable pub stays : Table → Update → Entry → Bool
-stays table u E = not (leaves table u E)
-
 unfoldable pub hopOf : Option Route → ℕ
 hopOf none = 0
 hopOf (some R) = R .hop
@@ -109,14 +106,14 @@ fresh table E = record { prefix = E .prefix; hop = hopOf (match table (E .prefix
 
 -- "the cache is the old one in the same order of use, less exactly" those that leave
 unfoldable pub refreshed : Table → Update → Cache → Cache
-refreshed table u cache = map (fresh table) (keep (stays table u) cache)
+refreshed table u cache = map (fresh table) (keep (λ E. not (leaves table u E)) cache)
 
 -- "The answer gives two counts: entries removed, and entries kept whose hop differs from before."
 unfoldable pub removed : Table → Update → Cache → ℕ
 removed table u cache = length (keep (leaves table u) cache)
 
 unfoldable pub changed : Table → Update → Cache → ℕ
-changed table u cache = length (keep (λ E. not (eqb (E .hop) (fresh table E .hop))) (keep (stays table u) cache))
+changed table u cache = length (keep (λ E. not (eqb (E .hop) (fresh table E .hop))) (keep (λ E. not (leaves table u E)) cache))
 
 -- ---- refusals
 

@@ -1,0 +1,168 @@
+-- Answers, next caches and nodes examined depend on the set of routes, not on the order in which the table lists them. Assumes nothing.
+use mathlib.Core.Bool.{Bool}
+use mathlib.Core.List.{List, Memᴰ·cast, _∷_}
+use mathlib.Core.Option.{Option, none, some}
+use mathlib.Core.Path.{_∙_, _≡_, ap, ap₂, fun-ext, refl, sym}
+use Prim.Native.Nat.{_≤_, suc, zero, ℕ}
+use native.Mathlib.Omega.{arith}
+use lib.Dec.{ltb}
+use lib.ListN.{length, take}
+use Rattle.prefix.specs.Bits.{Bits}
+use Rattle.prefix.specs.Prefix.{contains, same, strictlyInside}
+use Rattle.prefix.proofs.Order.{⊑-by-length, ⊑-eq}
+use Rattle.prefix.proofs.Tests.{strict-⊑}
+use Rattle.model.specs.Demands.{Alike, AllFull, Distinct, LegalState, SameRoutes, Standing, Subset, and-calls, announced, kept, no-calls}
+use Rattle.model.specs.Lists.{_∈_, first, keep, p-cons, p-nil}
+use Rattle.model.specs.Model.{Limits, Looked, changed, fresh, leaves, lookCache, lookTable, lookup, newLength, refreshed, refusal, removed}
+use Rattle.model.specs.Nodes.{examined, isExamined, isRoot, nodes, parent}
+use Rattle.model.specs.Routes.{Action, Route, Update, announce, held, match, updated, withdraw}
+use Rattle.model.specs.Runs.{Call, Outcome, State, accepted, answers, judged, look, looked, step, update}
+use Rattle.model.proofs.Legal.{legal-step}
+use Rattle.model.proofs.ListLaws.{Pairwise-keep, Unique, any-same, biggest-same, in-keep, keep-in, same-length}
+use Rattle.model.proofs.Match.{Part, match-agree, new-entry, new-match, new-part, new-route, of-entry, of-match, of-route, one-each}
+use Rattle.model.proofs.NodeLaws.{Node, in-node, node-in, nodes-unique, of-one, of-two}
+use Rattle.model.proofs.Updates.{in-updated, new-in, updated-distinct, updated-in}
+
+pub flip : {t u : List Route} → SameRoutes t u → SameRoutes u t
+flip s = record { to = s .from; from = s .to }
+
+pub match-same : (t u : List Route) (X : Bits) → Distinct u → SameRoutes t u → match t X ≡ match u X
+match-same t u X d s = match-agree t u X X (one-each d) (λ r m h. (s .to r m, h)) (λ r m h. (s .from r m, h))
+
+new-le : (t u c : List Route) (X : Bits) (M : Route) → Subset t u → newLength t c X M ≤ newLength u c X M
+new-le t u c X M s = go (newLength t c X M) (new-part t c X M)
+  where
+    go : (n : ℕ) → Part t c X M n → n ≤ newLength u c X M
+    go n (of-match e) = rw e (new-match u c X M)
+    go n (of-route r m h e) = rw e (new-route u c X M r (s r m) h)
+    go n (of-entry d m e) = rw e (new-entry u c X M d m)
+
+pub new-same : (t u c : List Route) (X : Bits) (M : Route) → SameRoutes t u → newLength t c X M ≡ newLength u c X M
+new-same t u c X M s = omega (arith, new-le t u c X M (s .to), new-le u t c X M (s .from))
+
+node-sub : {t u : List Route} {v : Bits} → Subset t u → Node t v → Node u v
+node-sub f (of-one r m e) = of-one r (f r m) e
+node-sub f (of-two r s m n h e) = of-two r s (f r m) (f s n) h e
+
+nodes-sub : (t u : List Route) → Subset t u → Subset (nodes t) (nodes u)
+nodes-sub t u f v m = in-node u v (node-sub f (node-in t v m))
+
+-- ---- nodes examined
+
+pub parent-same : (ns ms : List Bits) (v : Bits) → Subset ns ms → Subset ms ns → parent ns v ≡ parent ms v
+unfolding parent
+parent-same ns ms v s t = biggest-same length (keep f ns) (keep f ms) one (sub ns ms s) (sub ms ns t)
+  where
+    f : Bits → Bool
+    f p = strictlyInside v p
+
+    sub : (l k : List Bits) → Subset l k → Subset (keep f l) (keep f k)
+    sub l k s x m = let a = keep-in f l m in in-keep f (s x (a .0)) (a .1)
+
+    one : (x y : Bits) → x ∈ keep f ms → y ∈ keep f ms → length x ≡ length y → x ≡ y
+    one x y m n e =
+        let a = strict-⊑ v x (keep-in f ms m .1) .0 in
+        let b = strict-⊑ v y (keep-in f ms n .1) .0 in
+        ⊑-eq (⊑-by-length a b (omega arith)) (omega arith)
+
+pub isExamined-same : (ns ms : List Bits) (X v : Bits) → Subset ns ms → Subset ms ns → isExamined ns X v ≡ isExamined ms X v
+unfolding isExamined isRoot
+isExamined-same ns ms X v s t = rw (any-same (λ (u : Bits). ltb (length u) (length v)) ns ms s t, parent-same ns ms v s t)
+
+pub examined-same : (t u : List Route) (X : Bits) → SameRoutes t u → examined t X ≡ examined u X
+unfolding examined
+examined-same t u X s = same-length (Pairwise-keep (isExamined (nodes t) X) (nodes-unique t)) (Pairwise-keep (isExamined (nodes u) X) (nodes-unique u)) (sub t u s) (sub u t (flip s))
+  where
+    sub : (t u : List Route) → SameRoutes t u → Subset (keep (isExamined (nodes t) X) (nodes t)) (keep (isExamined (nodes u) X) (nodes u))
+    sub t u s v m =
+        let a = keep-in (isExamined (nodes t) X) (nodes t) m in
+        let f = nodes-sub t u (s .to) in
+        let g = nodes-sub u t (s .from) in
+        in-keep (isExamined (nodes u) X) (f v (a .0)) (sym (isExamined-same (nodes t) (nodes u) X v f g) ∙ a .1)
+
+-- ---- calls
+
+pub lookup-same : (t u c : List Route) (limit : ℕ) (X : Bits) → Distinct u → SameRoutes t u → lookup t c limit X ≡ lookup u c limit X
+unfolding lookup lookCache lookTable
+lookup-same t u c limit X d s = onCache (first (λ (e : Route). contains (e .prefix) X) c)
+  where
+    onTable : (o : Option Route) → lookTable t c limit X o ≡ lookTable u c limit X o
+    onTable none = rw (examined-same t u X s)
+    onTable (some M) = rw (examined-same t u X s, new-same t u c X M s)
+
+    onCache : (o : Option Route) → lookCache t c limit X o ≡ lookCache u c limit X o
+    onCache none = rw (match-same t u X d s) (onTable (match u X))
+    onCache (some e) = refl
+
+updated-sub : (t u : List Route) (w : Update) → Subset t u → Subset (updated t w) (updated u w)
+updated-sub t u w s r m = go (updated-in t w r m)
+  where
+    go : Standing t w r → r ∈ updated u w
+    go (announced h e z) = Memᴰ·cast z (new-in u w h e)
+    go (kept m n) = in-updated u w r (s r m) n
+
+pub updated-same : (t u : List Route) (w : Update) → SameRoutes t u → SameRoutes (updated t w) (updated u w)
+updated-same t u w s = record { to = updated-sub t u w (s .to); from = updated-sub u t w (s .from) }
+
+pub leaves-same : (t u : List Route) (w : Update) → SameRoutes t u → leaves t w ≡ leaves u w
+unfolding leaves
+leaves-same t u w s = fun-ext (λ e. rw (any-same (λ (r : Route). strictlyInside (r .prefix) (e .prefix)) t u (s .to) (s .from), any-same (λ (r : Route). contains (r .prefix) (e .prefix)) t u (s .to) (s .from)))
+
+pub fresh-same : (t u : List Route) → Distinct u → SameRoutes t u → fresh t ≡ fresh u
+unfolding fresh
+fresh-same t u d s = fun-ext (λ e. rw (match-same t u (e .prefix) d s))
+
+pub length-same : (t u : List Route) → Distinct t → Distinct u → SameRoutes t u → length t ≡ length u
+length-same t u d e s = same-length (once d) (once e) (s .to) (s .from)
+  where
+    once : {l : List Route} → Distinct l → Unique l
+    once p-nil = p-nil
+    once (p-cons h k) = p-cons (λ y m z. h y m (ap (λ (r : Route). r .prefix) z)) (once k)
+
+pub refusal-same : (L : Limits) (t u : List Route) (n : ℕ) (p : Bits) (a : Action) → Distinct t → Distinct u → SameRoutes t u → refusal L t n p a ≡ refusal L u n p a
+unfolding refusal held
+refusal-same L t u n p (announce h) d e s = rw (any-same (λ (r : Route). same (r .prefix) p) t u (s .to) (s .from), length-same t u d e s)
+refusal-same L t u n p withdraw d e s = rw (any-same (λ (r : Route). same (r .prefix) p) t u (s .to) (s .from))
+
+pub record AlikeOut (s z : Outcome) : Type 0 where
+  pub same-answer : s .answer ≡ z .answer
+  pub still-alike : Alike (s .state) (z .state)
+
+pub step-same : (L : Limits) (s z : State) (x : Call) → LegalState L s → LegalState L z → Alike s z → AlikeOut (step L s x) (step L z x)
+unfolding step looked judged accepted refreshed removed changed
+step-same L s z (look X) S Z A =
+    let e : lookup (s .table) (s .cache) (L .entries) X ≡ lookup (z .table) (z .cache) (L .entries) X = rw (A .caches) (lookup-same (s .table) (z .table) (z .cache) (L .entries) X (Z .distinct) (A .tables)) in
+    record { same-answer = ap (λ (r : Looked). r .answer) e; still-alike = record { tables = A .tables; caches = ap (λ (r : Looked). r .cache) e; tallies = rw (e, A .tallies) } }
+step-same L s z (update a n act) S Z A = rw (refusal-same L (s .table) (z .table) n (take n a) act (S .distinct) (Z .distinct) (A .tables)) (go (refusal L (z .table) n (take n a) act))
+  where
+    u : Update
+    u = record { prefix = take n a; action = act }
+
+    T : SameRoutes (updated (s .table) u) (updated (z .table) u)
+    T = updated-same (s .table) (z .table) u (A .tables)
+
+    l : leaves (updated (s .table) u) u ≡ leaves (updated (z .table) u) u
+    l = leaves-same (updated (s .table) u) (updated (z .table) u) u T
+
+    f : fresh (updated (s .table) u) ≡ fresh (updated (z .table) u)
+    f = fresh-same (updated (s .table) u) (updated (z .table) u) (updated-distinct (z .table) u (Z .distinct)) T
+
+    ca : refreshed (updated (s .table) u) u (s .cache) ≡ refreshed (updated (z .table) u) u (z .cache)
+    ca = rw (l, f, A .caches)
+
+    re : removed (updated (s .table) u) u (s .cache) ≡ removed (updated (z .table) u) u (z .cache)
+    re = rw (l, A .caches)
+
+    ch : changed (updated (s .table) u) u (s .cache) ≡ changed (updated (z .table) u) u (z .cache)
+    ch = rw (l, f, A .caches)
+
+    go : (k : ℕ) → AlikeOut (judged s u k) (judged z u k)
+    go zero = record { same-answer = rw (re, ch); still-alike = record { tables = T; caches = ca; tallies = rw (re, A .tallies) } }
+    go (suc k) = record { same-answer = refl; still-alike = A }
+
+pub answers-same : (L : Limits) (s z : State) {l : List Call} → AllFull L l → LegalState L s → LegalState L z → Alike s z → answers L s l ≡ answers L z l
+unfolding answers
+answers-same L s z no-calls S Z A = refl
+answers-same L s z (and-calls {x = x} {l = l} g gs) S Z A =
+    let o = step-same L s z x S Z A in
+    ap₂ _∷_ (o .same-answer) (answers-same L (step L s x .state) (step L z x .state) gs (legal-step L s x g S) (legal-step L z x g Z) (o .still-alike))
