@@ -5,3 +5,5 @@ pub mod Legal
 pub mod NodeLaws
 pub mod HeldSum
 pub mod SameRoutes
+pub mod Descent
+pub mod Visit
