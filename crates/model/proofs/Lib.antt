@@ -7,3 +7,4 @@ pub mod HeldSum
 pub mod SameRoutes
 pub mod Descent
 pub mod Visit
+mod Worked
