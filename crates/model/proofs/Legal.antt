@@ -14,7 +14,7 @@ use Rattle.prefix.specs.Prefix.{contains, overlap, same}
 use Rattle.prefix.proofs.Booleans.{is-false, not-false, or-false}
 use Rattle.prefix.proofs.Order.{take-⊑, ⊑-length, ⊑-refl}
 use Rattle.prefix.proofs.Tests.{apart-sym, not-⊑, strict-⊑, ⊑-contains}
-use Rattle.model.specs.Demands.{AllFull, Covered, Full, Hop, Legal, LegalState, Longest, NoLonger, Standing, Storable, and-calls, announced, kept, no-calls}
+use Rattle.model.specs.Demands.{AllFull, Covered, Full, Hop, Legal, LegalState, Longest, NoLonger, Standing, Storable, and-calls, announced, no-calls, stood}
 use Rattle.model.specs.Lists.{Pairwise, _∈_, first, keep, omit, p-cons, p-nil}
 use Rattle.model.specs.Model.{Limits, fresh, leaves, lookCache, lookTable, lookup, newLength, refreshed, refusal}
 use Rattle.model.specs.Routes.{Action, Route, Update, announce, held, match, updated, withAnnounced, withdraw}
@@ -151,11 +151,11 @@ legal-updated {L} {t} {c} u A S = record {
 
     short : (r : Route) → Standing t u r → length (r .prefix) ≤ L .width
     short r (announced h f z) = rw z (A .short)
-    short r (kept m n) = S .routes-short r m
+    short r (stood m n) = S .routes-short r m
 
     hop : (r : Route) → Standing t u r → Hop (r .hop)
     hop r (announced h f z) = rw z (A .hop h f)
-    hop r (kept m n) = S .routes-hops r m
+    hop r (stood m n) = S .routes-hops r m
 
 -- ---- refusals
 

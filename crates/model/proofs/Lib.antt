@@ -8,3 +8,4 @@ pub mod SameRoutes
 pub mod Descent
 pub mod Visit
 mod Worked
+pub mod Lookups

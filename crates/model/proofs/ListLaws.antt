@@ -1,6 +1,6 @@
 -- Laws of the functions on lists. Assumes nothing.
 use mathlib.Core.Bool.{Bool, cond, false, false≢true, not, true}
-use mathlib.Core.List.{List, List·Memᴰ·append-cases, List·Memᴰ·cases-cons, List·Memᴰ·head, List·Memᴰ·not-nil, List·Memᴰ·tail, Memᴰ·append-left, Memᴰ·append-right, Memᴰ·cast, [], _∷_, flatMap, map}
+use mathlib.Core.List.{List, List·Memᴰ·append-cases, List·Memᴰ·cases-cons, List·Memᴰ·head, List·Memᴰ·not-nil, List·Memᴰ·tail, Memᴰ·append-left, Memᴰ·append-right, Memᴰ·cast, [], _++_, _∷_, flatMap, map}
 use mathlib.Core.Logic.{_⊎_, inl, inr}
 use mathlib.Core.Option.{Option, Option·none-ne-some, Option·some-ne-none, none, some}
 use mathlib.Core.Path.{_∙_, _≡_, ap, refl, sym}
@@ -228,6 +228,45 @@ module _ {A : Type 0} where
       go : (b : Bool) → cond b (some a) (first f l) ≡ some x → y ∈ cond b l (a ∷ omit f l) → (first f l ≡ some x → y ∈ omit f l → R x y) → R x y
       go true e m rec = let z : x ≡ a = cc in rw z (h y m)
       go false e m rec = sub e (List·Memᴰ·cases-cons m) rec
+
+  -- the list around the first that passes
+  pub record Around (f : A → Bool) (l : List A) (x : A) : Type 0 where
+    pub before : List A
+    pub behind : List A
+    pub stands : l ≡ before ++ (x ∷ behind)
+    pub rest : omit f l ≡ before ++ behind
+
+  pub first-split : (f : A → Bool) (l : List A) {x : A} → first f l ≡ some x → Around f l x
+  unfolding first omit
+  first-split f [] {x} e = absurd (Option·none-ne-some x e)
+  first-split f (a ∷ l) {x} e = go (f a) refl e (λ h. first-split f l h)
+    where
+      sub : f a ≡ false → Around f l x → Around f (a ∷ l) x
+      sub h r = record { before = a ∷ r .before; behind = r .behind; stands = ap (λ (k : List A). a ∷ k) (r .stands); rest = rw h (ap (λ (k : List A). a ∷ k) (r .rest)) }
+
+      go : (b : Bool) → f a ≡ b → cond b (some a) (first f l) ≡ some x → (first f l ≡ some x → Around f l x) → Around f (a ∷ l) x
+      go true h e rec = let z : x ≡ a = cc in record { before = []; behind = l; stands = rw z refl; rest = rw h refl }
+      go false h e rec = sub h (rec e)
+
+  pub passing-first : (f : A → Bool) (l : List A) (x : A) (k : List A) → f x ≡ true → ((y : A) → y ∈ l → f y ≡ false)
+      → (first f (l ++ (x ∷ k)) ≡ some x) × (omit f (l ++ (x ∷ k)) ≡ l ++ k)
+  unfolding first omit
+  passing-first f [] x k h n = (rw h, rw h)
+  passing-first f (a ∷ l) x k h n =
+      let r = passing-first f l x k h (λ y m. n y (List·Memᴰ·tail m)) in
+      (rw (n a (List·Memᴰ·head refl)) (r .0), rw (n a (List·Memᴰ·head refl)) (ap (λ (j : List A). a ∷ j) (r .1)))
+
+  -- R holds of an element and each before it
+  pub before-apart : {R : A → A → Type 0} (l : List A) (x : A) (k : List A) → Pairwise R (l ++ (x ∷ k)) → (y : A) → y ∈ l → R y x
+  before-apart l x k P y m = go l P m
+    where
+      go : {R : A → A → Type 0} (l : List A) → Pairwise R (l ++ (x ∷ k)) → y ∈ l → R y x
+      go [] P m = absurd (List·Memᴰ·not-nil m)
+      go {R} (a ∷ l) (p-cons h t) m = sub (List·Memᴰ·cases-cons m) (λ n. go l t n)
+        where
+          sub : (y ≡ a) ⊎ (y ∈ l) → (y ∈ l → R y x) → R y x
+          sub (inl e) rec = rw e (h x (Memᴰ·append-right l (List·Memᴰ·head refl)))
+          sub (inr n) rec = rec n
 
   -- two elements are one, or R holds of them
   pub pair-cases : {R : A → A → Type 0} → ((x y : A) → R x y → R y x) → {l : List A} {x y : A} → Pairwise R l → x ∈ l → y ∈ l → (x ≡ y) ⊎ R x y

@@ -14,7 +14,7 @@ use Rattle.prefix.proofs.Booleans.{clash, either, is-false, not-false}
 use Rattle.prefix.proofs.Common.{common-lt, common-⊑, le-common}
 use Rattle.prefix.proofs.Order.{take-len, take-⊑, ⊑-by-length, ⊑-eq, ⊑-length, ⊑-of-eq, ⊑-total, ⊑-trans}
 use Rattle.prefix.proofs.Tests.{apart-⊑, contains-⊑, not-⊑, ⊑-apart, ⊑-contains, ⊑-not}
-use Rattle.model.specs.Demands.{Distinct, Longest, NoLonger, Storable}
+use Rattle.model.specs.Demands.{Distinct, Longest, NoLonger, Shortest, Storable}
 use Rattle.model.specs.Lists.{_∈_, keep}
 use Rattle.model.specs.Model.{newLength}
 use Rattle.model.specs.Routes.{Route, match}
@@ -41,6 +41,13 @@ match-longest t X {M} e =
 pub match-none : (t : List Route) (X : Bits) → match t X ≡ none → (r : Route) → r ∈ t → contains (r .prefix) X ≡ false
 unfolding match
 match-none t X e r m = is-false (λ h. biggest-none (λ (r : Route). length (r .prefix)) (keep (λ (r : Route). contains (r .prefix) X) t) e (in-keep (λ (r : Route). contains (r .prefix) X) m h))
+
+pub no-match : (t : List Route) (X : Bits) → ((r : Route) → r ∈ t → contains (r .prefix) X ≡ false) → match t X ≡ none
+no-match t X n = go (match t X) refl
+  where
+    go : (o : Option Route) → match t X ≡ o → match t X ≡ none
+    go none e = e
+    go (some M) e = let l = match-longest t X e in absurd (clash (l .covers) (n M (l .is-route)))
 
 -- the match is decided by which routes contain the address
 pub match-agree : (t u : List Route) (X Y : Bits) → OneEach u
@@ -193,3 +200,7 @@ module _ (t c : List Route) (X : Bits) (M : Route) where
             sub : (r .prefix ⊑ take (newLength t c X M) X) ⊎ (take (newLength t c X M) X ⊑ r .prefix) → length (r .prefix) ≤ length (M .prefix)
             sub (inl a) = L .longest r m (⊑-contains (⊑-trans a inX))
             sub (inr a) = absurd (not-⊑ _ (r .prefix) (stored-storable .no-longer-route r m (omega arith)) a)
+
+-- there is only one shortest
+pub one-shortest : (t c : List Route) (X : Bits) (M : Route) {p q : Bits} → Shortest t c X M p → Shortest t c X M q → p ≡ q
+one-shortest t c X M {p} {q} a b = ⊑-eq (⊑-by-length (contains-⊑ p X (a .storable .contains-address)) (contains-⊑ q X (b .storable .contains-address)) (a .shortest q (b .storable))) (b .shortest p (a .storable))

@@ -11,7 +11,7 @@ use Rattle.prefix.specs.Bits.{Bits}
 use Rattle.prefix.specs.Prefix.{contains, same, strictlyInside}
 use Rattle.prefix.proofs.Order.{⊑-by-length, ⊑-eq}
 use Rattle.prefix.proofs.Tests.{strict-⊑}
-use Rattle.model.specs.Demands.{Alike, AllFull, Distinct, LegalState, SameRoutes, Standing, Subset, and-calls, announced, kept, no-calls}
+use Rattle.model.specs.Demands.{Alike, AllFull, Distinct, LegalState, SameRoutes, Standing, Subset, and-calls, announced, no-calls, stood}
 use Rattle.model.specs.Lists.{_∈_, first, keep, p-cons, p-nil}
 use Rattle.model.specs.Model.{Limits, Looked, changed, fresh, leaves, lookCache, lookTable, lookup, newLength, refreshed, refusal, removed}
 use Rattle.model.specs.Nodes.{examined, isExamined, isRoot, nodes, parent}
@@ -99,7 +99,7 @@ updated-sub t u w s r m = go (updated-in t w r m)
   where
     go : Standing t w r → r ∈ updated u w
     go (announced h e z) = Memᴰ·cast z (new-in u w h e)
-    go (kept m n) = in-updated u w r (s r m) n
+    go (stood m n) = in-updated u w r (s r m) n
 
 pub updated-same : (t u : List Route) (w : Update) → SameRoutes t u → SameRoutes (updated t w) (updated u w)
 updated-same t u w s = record { to = updated-sub t u w (s .to); from = updated-sub u t w (s .from) }

@@ -1,21 +1,24 @@
 -- What an update does to the table and to the entries. Assumes nothing.
 use mathlib.Core.Bool.{Bool, _&&_, _||_, cond, false, false≢true, not, true}
-use mathlib.Core.List.{List, List·Memᴰ·cases-cons, List·Memᴰ·head, List·Memᴰ·tail, [], _∷_, map}
+use mathlib.Core.List.{List, List·Memᴰ·cases-cons, List·Memᴰ·head, List·Memᴰ·tail, Memᴰ·cast, [], _∷_, map}
 use mathlib.Core.Logic.{_⊎_, inl, inr}
 use mathlib.Core.Option.{Option, none, some}
 use mathlib.Core.Path.{_∙_, _≡_, ap, refl, sym}
-use Prim.Native.Nat.{ℕ}
+use Prim.Native.Nat.{suc, ℕ}
 use native.Mathlib.Omega.{arith}
-use lib.ListN.{length}
+use lib.Dec.{eqb}
+use lib.ListN.{length, take}
+use borrow.Author.Tests.{eq-eqb, eqb-false, eqb-true, ne-eqb}
 use Rattle.prefix.specs.Bits.{Bits}
 use Rattle.prefix.specs.Prefix.{contains, overlap, same, strictlyInside}
 use Rattle.prefix.proofs.Booleans.{clash, is-false, not-false, or-right, or-true}
 use Rattle.prefix.proofs.Order.{⊑-length, ⊑-of-eq}
 use Rattle.prefix.proofs.Tests.{apart-⊑, contains-⊑, eq-same, ne-same, same-eq, strict-⊑, ⊑-contains}
-use Rattle.model.specs.Demands.{Covered, Distinct, Leaving, Longest, Standing, announced, kept, route-inside, uncovered, withdrawn}
+use Rattle.model.specs.Demands.{Covered, Distinct, Leaving, LegalState, Longest, Refreshed, Standing, UpdateOutcome, announced, at-end, left, new-hop, route-inside, same-hop, stood, uncovered, withdrawn}
 use Rattle.model.specs.Lists.{_∈_, any, keep, p-cons}
-use Rattle.model.specs.Model.{fresh, hopOf, leaves, refreshed, withdraws}
-use Rattle.model.specs.Routes.{Action, Route, Update, announce, match, updated, withAnnounced, withdraw}
+use Rattle.model.specs.Model.{Cache, Entry, Limits, changed, fresh, hopOf, leaves, refreshed, refusal, refused, removed, withdraws}
+use Rattle.model.specs.Routes.{Action, Route, Table, Update, announce, match, updated, withAnnounced, withdraw}
+use Rattle.model.specs.Runs.{State, accepted, judged, step, update}
 use Rattle.model.proofs.ListLaws.{Pairwise-keep, any-false, any-in, in-any, in-keep, keep-in, none-any}
 use Rattle.model.proofs.Match.{longest-match, match-agree, match-longest, match-none, one-each}
 
@@ -36,7 +39,7 @@ unfolding updated withAnnounced
 updated-in t u r m = go (u .action) refl m
   where
     old : r ∈ keep (λ (r : Route). not (same (r .prefix) (u .prefix))) t → Standing t u r
-    old m = let k = keep-in (λ (r : Route). not (same (r .prefix) (u .prefix))) t m in kept (k .0) (λ e. clash (eq-same e) (not-false _ (k .1)))
+    old m = let k = keep-in (λ (r : Route). not (same (r .prefix) (u .prefix))) t m in stood (k .0) (λ e. clash (eq-same e) (not-false _ (k .1)))
 
     sub : (h : ℕ) → u .action ≡ announce h → (r ≡ record { prefix = u .prefix; hop = h }) ⊎ (r ∈ keep (λ (r : Route). not (same (r .prefix) (u .prefix))) t) → Standing t u r
     sub h e (inl z) = announced h e z
@@ -63,6 +66,10 @@ updated-distinct t u d = go (u .action)
 pub new-in : (t : List Route) (u : Update) (h : ℕ) → u .action ≡ announce h → record { prefix = u .prefix; hop = h } ∈ updated t u
 unfolding updated withAnnounced
 new-in t u h e = rw e (List·Memᴰ·head refl)
+
+pub standing-in : (t : Table) (u : Update) (r : Route) → Standing t u r → r ∈ updated t u
+standing-in t u r (announced h e z) = Memᴰ·cast z (new-in t u h e)
+standing-in t u r (stood m n) = in-updated t u r m n
 
 -- ---- the entries that leave
 
@@ -100,7 +107,7 @@ module _ (t : List Route) (u : Update) (e : Route) (d : Distinct t) (E : Covered
 
   back : (r : Route) → ¬ (r .prefix ≡ u .prefix) → Standing t u r → r ∈ t
   back r n (announced h f z) = absurd (n (ap (λ (r : Route). r .prefix) z))
-  back r n (kept m k) = m
+  back r n (stood m k) = m
 
   pub same-match : match (updated t u) (e .prefix) ≡ match t (e .prefix)
   same-match = match-agree (updated t u) t (e .prefix) (e .prefix) (one-each d)
@@ -135,9 +142,17 @@ fresh-entry t u e h = go (match t (e .prefix)) refl
       none-inside = λ r m. is-false (λ k. clash (leaving-leaves t u e (route-inside r m k)) h);
     }
 
-fresh-pre : (t : List Route) (e : Route) → fresh t e .prefix ≡ e .prefix
+fresh-prefix : (t : List Route) (e : Route) → fresh t e .prefix ≡ e .prefix
 unfolding fresh
-fresh-pre t e = refl
+fresh-prefix t e = refl
+
+fresh-unchanged : (t : Table) (e : Entry) → e .hop ≡ fresh t e .hop → fresh t e ≡ e
+unfolding fresh
+fresh-unchanged t e h = rw (← h)
+
+pub covered-fresh : {t : Table} {e : Entry} → Covered t e → fresh t e ≡ e
+unfolding fresh hopOf
+covered-fresh E = rw (E .is-match, ← E .its-hop)
 
 -- the entries that do not overlap the updated prefix are the same list as before
 pub apart-same : (t : List Route) (u : Update) (c : List Route) → Distinct t → ((e : Route) → e ∈ c → Covered t e)
@@ -153,7 +168,7 @@ apart-same t u (e ∷ c) d E = go (overlap (e .prefix) (u .prefix)) refl (leaves
     rest = keep (λ e. not (leaves (updated t u) u e)) c
 
     same-pre : out (fresh (updated t u) e) ≡ out e
-    same-pre = rw fresh-pre
+    same-pre = rw fresh-prefix
 
     go : (b : Bool) → overlap (e .prefix) (u .prefix) ≡ b → (l : Bool) → leaves (updated t u) u e ≡ l
         → keep out (map (fresh (updated t u)) rest) ≡ keep out c
@@ -181,9 +196,92 @@ announced-kept t p h e d E z = (is-false (λ k. go (leaves-leaving (updated t u)
       where
         old : (r : Route) → strictlyInside (r .prefix) (e .prefix) ≡ true → Standing t u r → ⊥
         old r k (announced x f y) = omega (arith, strict-⊑ (r .prefix) (e .prefix) k .1, ap length (ap (λ (r : Route). r .prefix) y ∙ sym z))
-        old r k (kept m n) = clash k (E .none-inside r m)
+        old r k (stood m n) = clash k (E .none-inside r m)
     go (uncovered k) = clash (⊑-contains (⊑-of-eq (sym z))) (k new (new-in t u h refl))
     go (withdrawn f y) = let w : _≡_ {A = ℕ} 0 1 = cc in omega arith
 
     best : Longest (updated t u) (e .prefix) new
     best = record { is-route = new-in t u h refl; covers = ⊑-contains (⊑-of-eq (sym z)); longest = λ r m k. omega (arith, ⊑-length (contains-⊑ (r .prefix) (e .prefix) k), ap length z) }
+
+-- an entry that an announced prefix lies strictly inside leaves, whatever its hop
+pub announced-inside-leaves : (t : Table) (u : Update) (h : ℕ) (e : Entry) → u .action ≡ announce h → strictlyInside (u .prefix) (e .prefix) ≡ true → leaves (updated t u) u e ≡ true
+announced-inside-leaves t u h e f k = leaving-leaves (updated t u) u e (route-inside (record { prefix = u .prefix; hop = h }) (new-in t u h f) k)
+
+-- an entry with the withdrawn prefix leaves, whatever still covers it
+pub withdrawn-leaves : (t : Table) (u : Update) (e : Entry) → u .action ≡ withdraw → u .prefix ≡ e .prefix → leaves (updated t u) u e ≡ true
+withdrawn-leaves t u e f k = leaving-leaves (updated t u) u e (withdrawn f k)
+
+-- ---- the cache after an update, entry by entry
+
+pub refreshed-is : (t : Table) (u : Update) (c : Cache) → Refreshed t u c (refreshed t u c) (removed t u c) (changed t u c)
+unfolding refreshed removed changed keep
+refreshed-is t u [] = at-end
+refreshed-is t u (e ∷ c) = go (leaves t u e) refl (refreshed-is t u c)
+  where
+    rest : Cache
+    rest = keep (λ (d : Entry). not (leaves t u d)) c
+
+    new : Entry → Bool
+    new d = not (eqb (d .hop) (fresh t d .hop))
+
+    stays : leaves t u e ≡ false → ¬ Leaving t u e
+    stays h k = clash (leaving-leaves t u e k) h
+
+    hop : leaves t u e ≡ false → (b : Bool) → eqb (e .hop) (fresh t e .hop) ≡ b → Refreshed t u c (map (fresh t) rest) (length (keep (leaves t u) c)) (length (keep new rest))
+        → Refreshed t u (e ∷ c) (fresh t e ∷ map (fresh t) rest) (length (keep (leaves t u) c)) (length (cond (not b) (e ∷ keep new rest) (keep new rest)))
+    hop h true k rec = let z = fresh-unchanged t e (eqb-true (e .hop) (fresh t e .hop) k) in rw z (same-hop (stays h) (rw (← z) (fresh-entry t u e h)) rec)
+    hop h false k rec = new-hop (stays h) (fresh-entry t u e h) (fresh-prefix t e) (λ z. eqb-false (e .hop) (fresh t e .hop) k (sym z)) rec
+
+    go : (b : Bool) → leaves t u e ≡ b → Refreshed t u c (map (fresh t) rest) (length (keep (leaves t u) c)) (length (keep new rest))
+        → Refreshed t u (e ∷ c) (map (fresh t) (cond (not b) (e ∷ rest) rest)) (length (cond b (e ∷ keep (leaves t u) c) (keep (leaves t u) c))) (length (keep new (cond (not b) (e ∷ rest) rest)))
+    go true h rec = left (leaves-leaving t u e h) rec
+    go false h rec = hop h (eqb (e .hop) (fresh t e .hop)) refl rec
+
+fresh-by-prefix : (t : Table) (e d : Entry) → e .prefix ≡ d .prefix → fresh t e ≡ fresh t d
+unfolding fresh
+fresh-by-prefix t e d h = rw h
+
+-- and there is no other cache, and there are no other counts
+pub only-refreshed : {t : Table} {u : Update} {c d : Cache} {r k : ℕ} → Refreshed t u c d r k → (d ≡ refreshed t u c) × (r ≡ removed t u c) × (k ≡ changed t u c)
+unfolding refreshed removed changed keep
+only-refreshed at-end = (refl, refl, refl)
+only-refreshed {t} {u} (left {E = e} l rest) =
+    let z = only-refreshed rest in
+    let h = leaving-leaves t u e l in
+    (rw h (z .0), rw h (ap suc (z .1)), rw h (z .2))
+only-refreshed {t} {u} (same-hop {E = e} n C rest) =
+    let z = only-refreshed rest in
+    let h : leaves t u e ≡ false = is-false (λ k. n (leaves-leaving t u e k)) in
+    let same = covered-fresh C in
+    let hop = eq-eqb (e .hop) (fresh t e .hop) (ap (λ (d : Entry). d .hop) (sym same)) in
+    (rw (h, same) (ap (λ (l : Cache). e ∷ l) (z .0)), rw h (z .1), rw (h, hop) (z .2))
+only-refreshed {t} {u} (new-hop {E = e} {D = d} n C p m rest) =
+    let z = only-refreshed rest in
+    let h : leaves t u e ≡ false = is-false (λ k. n (leaves-leaving t u e k)) in
+    let same : fresh t e ≡ d = fresh-by-prefix t e d (sym p) ∙ covered-fresh C in
+    let hop = ne-eqb (e .hop) (fresh t e .hop) (λ q. m (ap (λ (d : Entry). d .hop) (sym same) ∙ sym q)) in
+    (rw (h, same) (ap (λ (l : Cache). d ∷ l) (z .0)), rw h (z .1), rw (h, hop) (ap suc (z .2)))
+
+-- ---- calls
+
+-- an update that is not refused does what demand 3 asks
+pub update-outcome : (L : Limits) (s : State) (a : Bits) (n : ℕ) (act : Action) → LegalState L s → refusal L (s .table) n (take n a) act ≡ 0
+    → UpdateOutcome s (record { prefix = take n a; action = act }) (step L s (update a n act))
+unfolding step judged accepted
+update-outcome L s a n act S e = rw e (record {
+  routes = λ r. (updated-in (s .table) u r, standing-in (s .table) u r);
+  removed = removed (updated (s .table) u) u (s .cache);
+  changed = changed (updated (s .table) u) u (s .cache);
+  entries = refreshed-is (updated (s .table) u) u (s .cache);
+  counts = refl;
+  others = apart-same (s .table) u (s .cache) (S .distinct) (S .covered);
+})
+  where
+    u : Update
+    u = record { prefix = take n a; action = act }
+
+-- a refusal changes nothing
+pub update-refused : (L : Limits) (s : State) (a : Bits) (n : ℕ) (act : Action) (k : ℕ) → refusal L (s .table) n (take n a) act ≡ suc k
+    → step L s (update a n act) ≡ record { answer = refused (suc k); state = s }
+unfolding step judged
+update-refused L s a n act k e = rw e

@@ -122,7 +122,7 @@ pub data LookupOutcome (table : Table) (cache : Cache) (limit : ℕ) (X : Bits) 
 -- the routes that stand after an update of the table
 pub data Standing (table : Table) (u : Update) (R : Route) : Type 0 where
   announced : (hop : ℕ) → u .action ≡ announce hop → R ≡ record { prefix = u .prefix; hop = hop } → Standing table u R
-  kept : R ∈ table → ¬ (R .prefix ≡ u .prefix) → Standing table u R
+  stood : R ∈ table → ¬ (R .prefix ≡ u .prefix) → Standing table u R
 
 -- "exactly the entries that now hold a route strictly inside, have no covering route, or had their own prefix just withdrawn"
 pub data Leaving (table : Table) (u : Update) (E : Entry) : Type 0 where
