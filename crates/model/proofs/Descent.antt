@@ -15,9 +15,9 @@ use Rattle.prefix.proofs.Order.{⊑-by-length, ⊑-eq, ⊑-length, ⊑-of-eq, �
 use Rattle.prefix.proofs.Tests.{contains-⊑, not-⊑, strict-⊑, ⊑-contains, ⊑-not, ⊑-strict}
 use Rattle.model.specs.Demands.{Longest}
 use Rattle.model.specs.Lists.{_∈_, keep, largest}
-use Rattle.model.specs.Model.{newLength}
+use Rattle.model.specs.Model.{Cache, Entry, newLength}
 use Rattle.model.specs.Nodes.{nodes}
-use Rattle.model.specs.Routes.{Route}
+use Rattle.model.specs.Routes.{Route, Table}
 use Rattle.model.proofs.Match.{Part, new-match, new-part, new-route, of-entry, of-match, of-route}
 use Rattle.model.proofs.NodeLaws.{branch-node, in-node, node-in, node-route, of-one}
 
@@ -27,16 +27,16 @@ largest-append [] k = omega arith
 largest-append (n ∷ l) k = omega (arith, largest-append l k)
 
 -- the routes' part and the entries' part
-pub new-split : (t c : List Route) (X : Bits) (M : Route) → newLength t c X M ≡ max (newLength t [] X M) (largest (map (λ e. suc (common X (e .prefix))) c))
+pub new-split : (t : Table) (c : Cache) (X : Bits) (M : Route) → newLength t c X M ≡ max (newLength t [] X M) (largest (map (λ e. suc (common X (e .prefix))) c))
 unfolding newLength largest
 new-split t c X M =
-    let a = largest-append (map (λ (r : Route). suc (common X (r .prefix))) (keep (λ (r : Route). not (contains (r .prefix) X)) t)) (map (λ (e : Route). suc (common X (e .prefix))) c) in
+    let a = largest-append (map (λ (r : Route). suc (common X (r .prefix))) (keep (λ (r : Route). not (contains (r .prefix) X)) t)) (map (λ (e : Entry). suc (common X (e .prefix))) c) in
     let b = largest-append (map (λ (r : Route). suc (common X (r .prefix))) (keep (λ (r : Route). not (contains (r .prefix) X)) t)) [] in
     omega (arith, a, b)
 
 -- a node w that does not contain X goes on as X does past every node that contains X: no other route that does not contain X has more in common with X.
 -- (Standing a table, and of a cache: the longest Common of its entries.)
-module _ (t : List Route) (X w : Bits) (m : w ∈ nodes t) (n : ¬ (w ⊑ X)) (deep : (u : Bits) → u ∈ nodes t → u ⊑ X → length u < common X w) where
+module _ (t : Table) (X w : Bits) (m : w ∈ nodes t) (n : ¬ (w ⊑ X)) (deep : (u : Bits) → u ∈ nodes t → u ⊑ X → length u < common X w) where
   pub next-reached : (r : Route) × (r ∈ t) × (contains (r .prefix) X ≡ false) × (common X w ≤ common X (r .prefix))
   next-reached =
       let r = node-route (node-in t w m) in
@@ -87,7 +87,7 @@ module _ (t : List Route) (X w : Bits) (m : w ∈ nodes t) (n : ¬ (w ⊑ X)) (d
               go (inr a) = absurd (off (⊑-trans a (shared-right (r .prefix) w)))
 
 -- v is the last node that contains X
-module _ (t : List Route) (X : Bits) (M : Route) (L : Longest t X M) (v : Bits) (vX : v ⊑ X) (deep : (u : Bits) → u ∈ nodes t → u ⊑ X → length u ≤ length v) where
+module _ (t : Table) (X : Bits) (M : Route) (L : Longest t X M) (v : Bits) (vX : v ⊑ X) (deep : (u : Bits) → u ∈ nodes t → u ⊑ X → length u ≤ length v) where
   route-node : (r : Route) → r ∈ t → r .prefix ∈ nodes t
   route-node r m = in-node t (r .prefix) (of-one r m refl)
 

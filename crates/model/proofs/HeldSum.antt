@@ -11,7 +11,7 @@ use Rattle.tallies.specs.Counting.{heldSum}
 use Rattle.tallies.specs.declared.Tallies.{Tallies}
 use Rattle.model.specs.Demands.{AllFull}
 use Rattle.model.specs.Lists.{first}
-use Rattle.model.specs.Model.{Limits, Looked, leaves, lookCache, lookTable, lookup, refreshed, refusal, removed}
+use Rattle.model.specs.Model.{Entry, Limits, Looked, leaves, lookCache, lookTable, lookup, refreshed, refusal, removed}
 use Rattle.model.specs.Routes.{Route, Update, match, updated}
 use Rattle.model.specs.Runs.{Call, State, accepted, after, empty, judged, look, looked, step, tallied, update}
 use Rattle.model.proofs.Legal.{legal-run}
@@ -26,7 +26,7 @@ pub record Counted (n : ℕ) (k : Tallies) : Type 0 where
 counted-lookup : (s : State) (limit : ℕ) (X : Bits) → Counted (length (s .cache)) (s .tallies)
     → Counted (length (lookup (s .table) (s .cache) limit X .cache)) (tallied (s .tallies) (lookup (s .table) (s .cache) limit X .answer) (lookup (s .table) (s .cache) limit X .evicted))
 unfolding lookup lookTable lookCache
-counted-lookup s limit X C = onCache (first (λ (e : Route). contains (e .prefix) X) (s .cache)) refl
+counted-lookup s limit X C = onCache (first (λ (e : Entry). contains (e .prefix) X) (s .cache)) refl
   where
     Goal : Looked → Type 0
     Goal r = Counted (length (r .cache)) (tallied (s .tallies) (r .answer) (r .evicted))
@@ -40,13 +40,13 @@ counted-lookup s limit X C = onCache (first (λ (e : Route). contains (e .prefix
       sum = simp length-take (omega (arith, C .sum));
     }
 
-    onCache : (o : Option Route) → first (λ (e : Route). contains (e .prefix) X) (s .cache) ≡ o → Goal (lookCache (s .table) (s .cache) limit X o)
+    onCache : (o : Option Route) → first (λ (e : Entry). contains (e .prefix) X) (s .cache) ≡ o → Goal (lookCache (s .table) (s .cache) limit X o)
     onCache none h = onTable (match (s .table) X)
     onCache (some e) h = record {
       misses-below = C .misses-below;
       evicted-below = C .evicted-below;
       removed-below = C .removed-below;
-      sum = rw (omit-length (λ (e : Route). contains (e .prefix) X) (s .cache) e h) (C .sum);
+      sum = rw (omit-length (λ (e : Entry). contains (e .prefix) X) (s .cache) e h) (C .sum);
     }
 
 pub counted-step : (L : Limits) (s : State) (x : Call) → Counted (length (s .cache)) (s .tallies) → Counted (length (step L s x .state .cache)) (step L s x .state .tallies)

@@ -1,26 +1,27 @@
 -- Every call keeps a legal pair legal, so every run from the empty state does. Assumes nothing.
 use mathlib.Core.Bool.{Bool, _&&_, _||_, cond, false, not, true}
-use mathlib.Core.List.{List, List·Memᴰ·cases-cons, List·Memᴰ·not-nil, [], _∷_}
+use mathlib.Core.List.{List, List·Memᴰ·cases-cons, List·Memᴰ·not-nil, Memᴰ·cast, [], _∷_}
 use mathlib.Core.Logic.{_⊎_, inl, inr}
 use mathlib.Core.Option.{Option, none, some}
 use mathlib.Core.Path.{_≡_, refl}
 use Prim.Native.Nat.{_<_, _≤_, suc, zero, ℕ}
 use native.Mathlib.Omega.{arith}
 use lib.Dec.{eqb, leb, ltb}
-use lib.ListN.{length, length-take, take}
+use lib.ListN.{length, length-map, length-take, take}
 use borrow.Author.Tests.{eqb-false, leb-false, ltb-false}
 use Rattle.prefix.specs.Bits.{Bits}
-use Rattle.prefix.specs.Prefix.{contains, overlap, same}
-use Rattle.prefix.proofs.Booleans.{is-false, not-false, or-false}
-use Rattle.prefix.proofs.Order.{take-⊑, ⊑-length, ⊑-refl}
-use Rattle.prefix.proofs.Tests.{apart-sym, not-⊑, strict-⊑, ⊑-contains}
-use Rattle.model.specs.Demands.{AllFull, Covered, Full, Hop, Legal, LegalState, Longest, NoLonger, Standing, Storable, and-calls, announced, no-calls, stood}
-use Rattle.model.specs.Lists.{Pairwise, _∈_, first, keep, omit, p-cons, p-nil}
-use Rattle.model.specs.Model.{Limits, fresh, leaves, lookCache, lookTable, lookup, newLength, refreshed, refusal}
-use Rattle.model.specs.Routes.{Action, Route, Update, announce, held, match, updated, withAnnounced, withdraw}
+use Rattle.prefix.specs.Prefix.{contains, same}
+use Rattle.prefix.proofs.Booleans.{not-false, or-false}
+use Rattle.prefix.proofs.Order.{⊑-length}
+use Rattle.prefix.proofs.Tests.{apart-sym, contains-⊑}
+use Rattle.model.specs.Demands.{AllFull, Covered, Full, Hop, Legal, LegalState, Longest, NoLonger, NoOverlap, Standing, Storable, and-calls, announced, no-calls, stood}
+use Rattle.model.specs.Lists.{_∈_, first, keep, omit, p-cons, p-nil}
+use Rattle.model.specs.Model.{Cache, Entry, Limits, fresh, leaves, lookCache, lookTable, lookup, newPrefix, refreshed, refusal}
+use Rattle.model.specs.Routes.{Action, Route, Table, Update, announce, held, match, updated, withAnnounced, withdraw}
 use Rattle.model.specs.Runs.{Call, State, accepted, after, empty, judged, look, looked, step, update}
 use Rattle.model.proofs.ListLaws.{Pairwise-keep, Pairwise-map, Pairwise-omit, Pairwise-take, any-in, first-in, first-none, first-omit, keep-in, keep-length, keep-lt, map-in, omit-in, omit-length, take-in}
-use Rattle.model.proofs.Match.{match-longest, one-each, stored-match, stored-storable}
+use Rattle.model.proofs.Lookups.{stored-is-shortest}
+use Rattle.model.proofs.Match.{match-longest, one-each, storable-covered}
 use Rattle.model.proofs.Updates.{fresh-entry, updated-distinct, updated-in}
 
 pub legal-empty : (L : Limits) → Legal L [] []
@@ -37,12 +38,12 @@ legal-empty L = record {
 
 -- ---- the lookup
 
-module _ {L : Limits} {t c : List Route} (S : Legal L t c) (X : Bits) (full : length X ≡ L .width) where
+module _ {L : Limits} {t : Table} {c : Cache} (S : Legal L t c) (X : Bits) (full : length X ≡ L .width) where
   hits : Route → Bool
   hits e = contains (e .prefix) X
 
   -- the same table, and another cache
-  with-cache : (d : List Route) → Pairwise (λ (d e : Route). overlap (d .prefix) (e .prefix) ≡ false) d → NoLonger (L .width) d → ((e : Route) → e ∈ d → Covered t e) → length d ≤ L .entries → Legal L t d
+  with-cache : (d : Cache) → NoOverlap d → NoLonger (L .width) d → ((e : Entry) → e ∈ d → Covered t e) → length d ≤ L .entries → Legal L t d
   with-cache d a s e f = record {
     distinct = S .distinct;
     routes-short = S .routes-short;
@@ -54,7 +55,7 @@ module _ {L : Limits} {t c : List Route} (S : Legal L t c) (X : Bits) (full : le
     entries-fit = f;
   }
 
-  legal-hit : (e : Route) → first hits c ≡ some e → Legal L t (e ∷ omit hits c)
+  legal-hit : (e : Entry) → first hits c ≡ some e → Legal L t (e ∷ omit hits c)
   legal-hit e h = with-cache (e ∷ omit hits c)
       (p-cons (first-omit (λ x y. apart-sym (x .prefix) (y .prefix)) hits h (S .no-overlap)) (Pairwise-omit hits (S .no-overlap)))
       (λ r m. S .entries-short r (old r (List·Memᴰ·cases-cons m)))
@@ -62,59 +63,36 @@ module _ {L : Limits} {t c : List Route} (S : Legal L t c) (X : Bits) (full : le
       (omega (arith, omit-length hits c e h, S .entries-fit))
     where
       old : (r : Route) → (r ≡ e) ⊎ (r ∈ omit hits c) → r ∈ c
-      old r (inl z) = mathlib.Core.List.Memᴰ·cast z (first-in hits c h .0)
+      old r (inl z) = Memᴰ·cast z (first-in hits c h .0)
       old r (inr m) = omit-in hits c m
 
-  no-hits : first hits c ≡ none → (e : Route) → e ∈ c → contains (e .prefix) X ≡ false
+  legal-miss : (M : Route) → first hits c ≡ none → match t X ≡ some M → Legal L t (take (L .entries) (record { prefix = newPrefix t c X M; hop = M .hop } ∷ c))
   unfolding hits
-  no-hits h e m = first-none hits h m
+  legal-miss M h e = with-cache (take (L .entries) (new ∷ c))
+      (Pairwise-take (L .entries) (p-cons (λ y m. st .overlaps-nothing y m) (S .no-overlap)))
+      (λ r m. short r (List·Memᴰ·cases-cons (take-in (L .entries) (new ∷ c) m)))
+      (λ r m. entry r (List·Memᴰ·cases-cons (take-in (L .entries) (new ∷ c) m)))
+      (simp length-take (omega arith))
+    where
+      new : Entry
+      new = record { prefix = newPrefix t c X M; hop = M .hop }
 
-  -- the entry that a miss stores
-  stored : Route → Route
-  stored M = record { prefix = take (newLength t c X M) X; hop = M .hop }
+      lm : Longest t X M
+      lm = match-longest t X e
 
-  module _ (M : Route) (h : first hits c ≡ none) (e : match t X ≡ some M) where
-    lm : Longest t X M
-    lm = match-longest t X e
+      st : Storable t c X M (newPrefix t c X M)
+      st = stored-is-shortest S X full M lm (λ d m. first-none hits h m) .storable
 
-    ts : NoLonger (length X) t
-    ts r m = rw full (S .routes-short r m)
+      short : (r : Entry) → (r ≡ new) ⊎ (r ∈ c) → length (r .prefix) ≤ L .width
+      short r (inl z) = rw z (omega (arith, full, ⊑-length (contains-⊑ (newPrefix t c X M) X (st .contains-address))))
+      short r (inr m) = S .entries-short r m
 
-    cs : NoLonger (length X) c
-    cs r m = rw full (S .entries-short r m)
-
-    st : Storable t c X M (stored M .prefix)
-    unfolding stored
-    st = stored-storable t c X M lm (no-hits h) ts cs
-
-    stored-entry : Covered t (stored M)
-    unfolding stored
-    stored-entry = record {
-      cover = M;
-      is-match = stored-match t c X M lm (no-hits h) ts cs (one-each (S .distinct)) (stored M .prefix) (⊑-contains (⊑-refl _));
-      its-hop = refl;
-      none-inside = λ r m. is-false (λ k. let l = strict-⊑ (r .prefix) (stored M .prefix) k in
-          not-⊑ (stored M .prefix) (r .prefix) (st .no-longer-route r m (omega (arith, st .no-shorter, l .1))) (l .0));
-    }
-
-    legal-miss : Legal L t (take (L .entries) (stored M ∷ c))
-    unfolding stored
-    legal-miss = with-cache (take (L .entries) (stored M ∷ c))
-        (Pairwise-take (L .entries) (p-cons (λ y m. st .overlaps-nothing y m) (S .no-overlap)))
-        (λ r m. short r (List·Memᴰ·cases-cons (take-in (L .entries) (stored M ∷ c) m)))
-        (λ r m. entry r (List·Memᴰ·cases-cons (take-in (L .entries) (stored M ∷ c) m)))
-        (simp length-take (omega arith))
-      where
-        short : (r : Route) → (r ≡ stored M) ⊎ (r ∈ c) → length (r .prefix) ≤ L .width
-        short r (inl z) = rw z (omega (arith, full, ⊑-length (take-⊑ (newLength t c X M) X)))
-        short r (inr m) = S .entries-short r m
-
-        entry : (r : Route) → (r ≡ stored M) ⊎ (r ∈ c) → Covered t r
-        entry r (inl z) = rw z stored-entry
-        entry r (inr m) = S .covered r m
+      entry : (r : Entry) → (r ≡ new) ⊎ (r ∈ c) → Covered t r
+      entry r (inl z) = rw z (storable-covered t c X M (newPrefix t c X M) lm st (one-each (S .distinct)))
+      entry r (inr m) = S .covered r m
 
   pub legal-lookup : Legal L t (lookup t c (L .entries) X .cache)
-  unfolding lookup lookCache lookTable hits stored
+  unfolding lookup lookCache lookTable hits
   legal-lookup = onCache (first hits c) refl
     where
       onTable : first hits c ≡ none → (o : Option Route) → match t X ≡ o → Legal L t (lookTable t c (L .entries) X o .cache)
@@ -128,12 +106,12 @@ module _ {L : Limits} {t c : List Route} (S : Legal L t c) (X : Bits) (full : le
 -- ---- updates
 
 -- what an accepted update may be
-pub record Allowed (L : Limits) (t : List Route) (u : Update) : Type 0 where
+pub record Allowed (L : Limits) (t : Table) (u : Update) : Type 0 where
   pub short : length (u .prefix) ≤ L .width
   pub hop : (h : ℕ) → u .action ≡ announce h → Hop h
   pub fits : length (updated t u) ≤ L .routes
 
-pub legal-updated : {L : Limits} {t c : List Route} (u : Update) → Allowed L t u → Legal L t c → Legal L (updated t u) (refreshed (updated t u) u c)
+pub legal-updated : {L : Limits} {t : Table} {c : Cache} (u : Update) → Allowed L t u → Legal L t c → Legal L (updated t u) (refreshed (updated t u) u c)
 unfolding refreshed fresh
 legal-updated {L} {t} {c} u A S = record {
   distinct = updated-distinct t u (S .distinct);
@@ -143,7 +121,7 @@ legal-updated {L} {t} {c} u A S = record {
   no-overlap = Pairwise-map (fresh (updated t u)) (Pairwise-keep stay (S .no-overlap));
   entries-short = λ r m. let e = map-in (fresh (updated t u)) (keep stay c) m in rw (e .2) (S .entries-short (e .0) (keep-in stay c (e .1) .0));
   covered = λ r m. let e = map-in (fresh (updated t u)) (keep stay c) m in rw (e .2) (fresh-entry (updated t u) u (e .0) (not-false _ (keep-in stay c (e .1) .1)));
-  entries-fit = simp lib.ListN.length-map (omega (arith, keep-length stay c, S .entries-fit));
+  entries-fit = simp length-map (omega (arith, keep-length stay c, S .entries-fit));
 }
   where
     stay : Route → Bool
@@ -163,11 +141,11 @@ passed : (b : Bool) (k x : ℕ) → cond b (suc k) x ≡ 0 → (b ≡ false) × 
 passed true k x e = absurd (omega arith)
 passed false k x e = (refl, e)
 
-update-length : (t : List Route) (p : Bits) (h : ℕ) → length (updated t (record { prefix = p; action = announce h })) ≡ suc (length (keep (λ (r : Route). not (same (r .prefix) p)) t))
+update-length : (t : Table) (p : Bits) (h : ℕ) → length (updated t (record { prefix = p; action = announce h })) ≡ suc (length (keep (λ (r : Route). not (same (r .prefix) p)) t))
 unfolding updated withAnnounced
 update-length t p h = refl
 
-fits : (t : List Route) (p : Bits) (h n : ℕ) → length t ≤ n → (not (held t p) && leb n (length t)) ≡ false → length (updated t (record { prefix = p; action = announce h })) ≤ n
+fits : (t : Table) (p : Bits) (h n : ℕ) → length t ≤ n → (not (held t p) && leb n (length t)) ≡ false → length (updated t (record { prefix = p; action = announce h })) ≤ n
 unfolding held
 fits t p h n l e = rw update-length (go (held t p) refl e)
   where
@@ -178,7 +156,7 @@ fits t p h n l e = rw update-length (go (held t p) refl e)
     go true k e = let r = any-in (λ (r : Route). same (r .prefix) p) t k in omega (arith, keep-lt f (r .1) (rw (r .2) refl))
     go false k e = omega (arith, leb-false n (length t) e, keep-length f t)
 
-pub accepted-allowed : (L : Limits) (t : List Route) (a : Bits) (n : ℕ) (act : Action) → length t ≤ L .routes → refusal L t n (take n a) act ≡ 0 → Allowed L t (record { prefix = take n a; action = act })
+pub accepted-allowed : (L : Limits) (t : Table) (a : Bits) (n : ℕ) (act : Action) → length t ≤ L .routes → refusal L t n (take n a) act ≡ 0 → Allowed L t (record { prefix = take n a; action = act })
 unfolding refusal updated withAnnounced
 accepted-allowed L t a n (announce h) l e =
     let x = passed (ltb (L .width) n) 0 _ e in

@@ -1,11 +1,11 @@
 pub mod ListLaws
 pub mod Match
+pub mod Lookups
 pub mod Updates
 pub mod Legal
-pub mod NodeLaws
 pub mod HeldSum
 pub mod SameRoutes
-pub mod Descent
+pub mod NodeLaws
 pub mod Visit
+pub mod Descent
 mod Worked
-pub mod Lookups

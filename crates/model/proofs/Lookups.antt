@@ -16,7 +16,7 @@ use Rattle.prefix.proofs.Order.{⊑-eq, ⊑-of-eq, ⊑-total, ⊑-trans}
 use Rattle.prefix.proofs.Tests.{apart-not, contains-⊑, ⊑-contains, ⊑-strict}
 use Rattle.model.specs.Demands.{Cached, Covered, Distinct, GivesWay, Legal, Longest, LookupOutcome, NoLonger, NoOverlap, NoneCached, Shortest, has-room, is-drop, is-full, is-hit, is-miss}
 use Rattle.model.specs.Lists.{_∈_, any, first, omit}
-use Rattle.model.specs.Model.{Cache, Entry, Limits, Looked, hit, hopOf, lookCache, lookTable, lookup, newLength, values}
+use Rattle.model.specs.Model.{Cache, Entry, Limits, Looked, hit, hopOf, lookCache, lookTable, lookup, newPrefix, values}
 use Rattle.model.specs.Routes.{Route, Table, match}
 use Rattle.model.proofs.ListLaws.{any-in, before-apart, first-in, first-none, first-split, in-any, passing-first}
 use Rattle.model.proofs.Match.{longest-match, match-agree, match-longest, match-none, no-match, one-each, one-shortest, stored-shortest, stored-storable}
@@ -140,11 +140,8 @@ module _ {L : Limits} {t : Table} {c : Cache} (S : Legal L t c) (X : Bits) (full
   cs : NoLonger (length X) c
   cs r m = rw full (S .entries-short r m)
 
-  abbrev pub stored : Route → Bits
-  stored M = take (newLength t c X M) X
-
   -- the first n bits of the address are the shortest prefix that may be stored
-  pub stored-is-shortest : (M : Route) → Longest t X M → NoneCached c X → Shortest t c X M (stored M)
+  pub stored-is-shortest : (M : Route) → Longest t X M → NoneCached c X → Shortest t c X M (newPrefix t c X M)
   stored-is-shortest M l n = record { storable = stored-storable t c X M l n ts cs; shortest = stored-shortest t c X M l n ts cs }
 
   pub lookup-outcome : 0 < L .entries → LookupOutcome t c (L .entries) X (lookup t c (L .entries) X)
@@ -155,8 +152,8 @@ module _ {L : Limits} {t : Table} {c : Cache} (S : Legal L t c) (X : Bits) (full
       onTable h none e = is-drop (λ d m. first-none f h m) (match-none t X e) refl
       onTable h (some M) e =
           let l = match-longest t X e in
-          let g = gives-way (L .entries) (record { prefix = stored M; hop = M .hop }) c room (S .entries-fit) in
-          is-miss M (stored M) (λ d m. first-none f h m) l (stored-is-shortest M l (λ d m. first-none f h m)) (g .2) (rw (g .1) refl)
+          let g = gives-way (L .entries) (record { prefix = newPrefix t c X M; hop = M .hop }) c room (S .entries-fit) in
+          is-miss M (newPrefix t c X M) (λ d m. first-none f h m) l (stored-is-shortest M l (λ d m. first-none f h m)) (g .2) (rw (g .1) refl)
 
       onCache : (o : Option Entry) → first f c ≡ o → LookupOutcome t c (L .entries) X (lookCache t c (L .entries) X o)
       onCache none h = onTable h (match t X) refl
@@ -174,7 +171,7 @@ module _ {L : Limits} {t : Table} {c : Cache} (S : Legal L t c) (X : Bits) (full
   only-outcome (is-miss M p n l s g z) =
       let e = longest-match t X (one-each (S .distinct)) l in
       let k = stored-is-shortest M l n in
-      let q : p ≡ stored M = one-shortest t c X M s k in
+      let q : p ≡ newPrefix t c X M = one-shortest t c X M s k in
       let w = gave-way (L .entries) (record { prefix = p; hop = M .hop }) g in
       z ∙ rw (none-first f c n, e, w .0, w .1, q)
   only-outcome (is-drop n m z) = z ∙ rw (none-first f c n, no-match t X m)

@@ -7,42 +7,42 @@ use mathlib.Core.Path.{_∙_, _≡_, ap, refl, sym}
 use Prim.Native.Nat.{_<_, _≤_, suc, ℕ}
 use native.Mathlib.Decide.{decLe}
 use native.Mathlib.Omega.{arith}
-use lib.ListN.{length, take}
+use lib.ListN.{length}
 use Rattle.prefix.specs.Bits.{Bits}
 use Rattle.prefix.specs.Prefix.{_⊑_, common, contains}
 use Rattle.prefix.proofs.Booleans.{clash, either, is-false, not-false}
 use Rattle.prefix.proofs.Common.{common-lt, common-⊑, le-common}
-use Rattle.prefix.proofs.Order.{take-len, take-⊑, ⊑-by-length, ⊑-eq, ⊑-length, ⊑-of-eq, ⊑-total, ⊑-trans}
-use Rattle.prefix.proofs.Tests.{apart-⊑, contains-⊑, not-⊑, ⊑-apart, ⊑-contains, ⊑-not}
-use Rattle.model.specs.Demands.{Distinct, Longest, NoLonger, Shortest, Storable}
+use Rattle.prefix.proofs.Order.{take-len, take-⊑, ⊑-by-length, ⊑-eq, ⊑-length, ⊑-of-eq, ⊑-refl, ⊑-total, ⊑-trans}
+use Rattle.prefix.proofs.Tests.{apart-⊑, contains-⊑, not-⊑, strict-⊑, ⊑-apart, ⊑-contains, ⊑-not}
+use Rattle.model.specs.Demands.{Covered, Distinct, Longest, NoLonger, Shortest, Storable}
 use Rattle.model.specs.Lists.{_∈_, keep}
-use Rattle.model.specs.Model.{newLength}
-use Rattle.model.specs.Routes.{Route, match}
+use Rattle.model.specs.Model.{Cache, Entry, newLength, newPrefix}
+use Rattle.model.specs.Routes.{Route, Table, match}
 use Rattle.model.proofs.ListLaws.{biggest-is, biggest-none, in-keep, in-map, keep-in, largest-in, le-largest, map-in, pair-cases}
 
 -- so its routes are told apart by their prefixes
-abbrev pub OneEach : List Route → Type 0
+abbrev pub OneEach : Table → Type 0
 OneEach t = (r s : Route) → r ∈ t → s ∈ t → r .prefix ≡ s .prefix → r ≡ s
 
-pub one-each : {t : List Route} → Distinct t → OneEach t
+pub one-each : {t : Table} → Distinct t → OneEach t
 one-each d r s m n e = go (pair-cases (λ (x y : Route) (k : ¬ (x .prefix ≡ y .prefix)). λ (h : y .prefix ≡ x .prefix). k (sym h)) d m n)
   where
     go : (r ≡ s) ⊎ (¬ (r .prefix ≡ s .prefix)) → r ≡ s
     go (inl z) = z
     go (inr k) = absurd (k e)
 
-pub match-longest : (t : List Route) (X : Bits) {M : Route} → match t X ≡ some M → Longest t X M
+pub match-longest : (t : Table) (X : Bits) {M : Route} → match t X ≡ some M → Longest t X M
 unfolding match
 match-longest t X {M} e =
     let b = biggest-is (λ (r : Route). length (r .prefix)) (keep (λ (r : Route). contains (r .prefix) X) t) e in
     let k = keep-in (λ (r : Route). contains (r .prefix) X) t (b .is-in) in
     record { is-route = k .0; covers = k .1; longest = λ r m h. b .most r (in-keep (λ (r : Route). contains (r .prefix) X) m h) }
 
-pub match-none : (t : List Route) (X : Bits) → match t X ≡ none → (r : Route) → r ∈ t → contains (r .prefix) X ≡ false
+pub match-none : (t : Table) (X : Bits) → match t X ≡ none → (r : Route) → r ∈ t → contains (r .prefix) X ≡ false
 unfolding match
 match-none t X e r m = is-false (λ h. biggest-none (λ (r : Route). length (r .prefix)) (keep (λ (r : Route). contains (r .prefix) X) t) e (in-keep (λ (r : Route). contains (r .prefix) X) m h))
 
-pub no-match : (t : List Route) (X : Bits) → ((r : Route) → r ∈ t → contains (r .prefix) X ≡ false) → match t X ≡ none
+pub no-match : (t : Table) (X : Bits) → ((r : Route) → r ∈ t → contains (r .prefix) X ≡ false) → match t X ≡ none
 no-match t X n = go (match t X) refl
   where
     go : (o : Option Route) → match t X ≡ o → match t X ≡ none
@@ -50,7 +50,7 @@ no-match t X n = go (match t X) refl
     go (some M) e = let l = match-longest t X e in absurd (clash (l .covers) (n M (l .is-route)))
 
 -- the match is decided by which routes contain the address
-pub match-agree : (t u : List Route) (X Y : Bits) → OneEach u
+pub match-agree : (t u : Table) (X Y : Bits) → OneEach u
     → ((r : Route) → r ∈ t → contains (r .prefix) X ≡ true → (r ∈ u) × (contains (r .prefix) Y ≡ true))
     → ((r : Route) → r ∈ u → contains (r .prefix) Y ≡ true → (r ∈ t) × (contains (r .prefix) X ≡ true))
     → match t X ≡ match u Y
@@ -76,7 +76,7 @@ match-agree t u X Y one to from = go (match t X) (match u Y) refl refl
         e ∙ ap some z ∙ sym f
 
 -- the longest match is the match
-pub longest-match : (t : List Route) (X : Bits) {M : Route} → OneEach t → Longest t X M → match t X ≡ some M
+pub longest-match : (t : Table) (X : Bits) {M : Route} → OneEach t → Longest t X M → match t X ≡ some M
 longest-match t X {M} one L = go (match t X) refl
   where
     go : (o : Option Route) → match t X ≡ o → match t X ≡ some M
@@ -89,12 +89,12 @@ longest-match t X {M} one L = go (match t X) refl
 -- ---- the prefix that a miss stores
 
 -- what the three parts of n's maximum are
-pub data Part (t c : List Route) (X : Bits) (M : Route) (n : ℕ) : Type 0 where
+pub data Part (t : Table) (c : Cache) (X : Bits) (M : Route) (n : ℕ) : Type 0 where
   of-match : n ≡ length (M .prefix) → Part t c X M n
   of-route : (r : Route) → r ∈ t → contains (r .prefix) X ≡ false → n ≡ suc (common X (r .prefix)) → Part t c X M n
-  of-entry : (e : Route) → e ∈ c → n ≡ suc (common X (e .prefix)) → Part t c X M n
+  of-entry : (e : Entry) → e ∈ c → n ≡ suc (common X (e .prefix)) → Part t c X M n
 
-module _ (t c : List Route) (X : Bits) (M : Route) where
+module _ (t : Table) (c : Cache) (X : Bits) (M : Route) where
   outs : List Route
   outs = keep (λ (r : Route). not (contains (r .prefix) X)) t
 
@@ -105,15 +105,15 @@ module _ (t c : List Route) (X : Bits) (M : Route) where
   unfolding newLength
   new-match = le-largest (List·Memᴰ·head refl)
 
+  pub new-entry : (e : Entry) → e ∈ c → common X (e .prefix) < newLength t c X M
+  unfolding newLength outs past
+  new-entry e m = le-largest (List·Memᴰ·tail (Memᴰ·append-right (map past outs) (in-map past m)))
+
   pub new-route : (r : Route) → r ∈ t → contains (r .prefix) X ≡ false → common X (r .prefix) < newLength t c X M
   unfolding newLength outs past
   new-route r m h =
       let k : r ∈ outs = in-keep (λ (r : Route). not (contains (r .prefix) X)) m (rw h refl) in
       le-largest (List·Memᴰ·tail (Memᴰ·append-left (map past c) (in-map past k)))
-
-  pub new-entry : (e : Route) → e ∈ c → common X (e .prefix) < newLength t c X M
-  unfolding newLength outs past
-  new-entry e m = le-largest (List·Memᴰ·tail (Memᴰ·append-right (map past outs) (in-map past m)))
 
   pub new-part : Part t c X M (newLength t c X M)
   unfolding newLength outs past
@@ -130,7 +130,7 @@ module _ (t c : List Route) (X : Bits) (M : Route) where
       go (inl e) = of-match e
       go (inr m) = sub (List·Memᴰ·append-cases (map past outs) m)
 
-  module _ (L : Longest t X M) (no-hit : (e : Route) → e ∈ c → contains (e .prefix) X ≡ false) (ts : NoLonger (length X) t) (cs : NoLonger (length X) c) where
+  module _ (L : Longest t X M) (no-hit : (e : Entry) → e ∈ c → contains (e .prefix) X ≡ false) (ts : NoLonger (length X) t) (cs : NoLonger (length X) c) where
     pub new-≤ : newLength t c X M ≤ length X
     new-≤ = go new-part
       where
@@ -139,10 +139,10 @@ module _ (t c : List Route) (X : Bits) (M : Route) where
         go (of-route r m h e) = omega (arith, common-lt (not-⊑ (r .prefix) X h) (ts r m))
         go (of-entry d m e) = omega (arith, common-lt (not-⊑ (d .prefix) X (no-hit d m)) (cs d m))
 
-    pub new-length : length (take (newLength t c X M) X) ≡ newLength t c X M
+    pub new-length : length (newPrefix t c X M) ≡ newLength t c X M
     new-length = take-len (newLength t c X M) X new-≤
 
-    pub stored-storable : Storable t c X M (take (newLength t c X M) X)
+    pub stored-storable : Storable t c X M (newPrefix t c X M)
     stored-storable = record {
       contains-address = ⊑-contains inX;
       no-shorter = omega (arith, new-match, new-length);
@@ -150,14 +150,14 @@ module _ (t c : List Route) (X : Bits) (M : Route) where
       overlaps-nothing = λ e m. ⊑-apart (λ k. omega (arith, le-common inX k, new-entry e m, new-length)) (λ k. not-⊑ (e .prefix) X (no-hit e m) (⊑-trans k inX));
     }
       where
-        inX : take (newLength t c X M) X ⊑ X
+        inX : newPrefix t c X M ⊑ X
         inX = take-⊑ (newLength t c X M) X
 
-        route : (r : Route) → r ∈ t → length (M .prefix) < length (r .prefix) → take (newLength t c X M) X ⊑ r .prefix → (contains (r .prefix) X ≡ true) ⊎ (contains (r .prefix) X ≡ false) → ⊥
+        route : (r : Route) → r ∈ t → length (M .prefix) < length (r .prefix) → newPrefix t c X M ⊑ r .prefix → (contains (r .prefix) X ≡ true) ⊎ (contains (r .prefix) X ≡ false) → ⊥
         route r m h k (inl e) = omega (arith, L .longest r m e)
         route r m h k (inr e) = omega (arith, le-common inX k, new-route r m e, new-length)
 
-    pub stored-shortest : (q : Bits) → Storable t c X M q → length (take (newLength t c X M) X) ≤ length q
+    pub stored-shortest : (q : Bits) → Storable t c X M q → length (newPrefix t c X M) ≤ length q
     stored-shortest q s = rw new-length (go new-part (decLe (newLength t c X M) (length q)))
       where
         qX : q ⊑ X
@@ -176,31 +176,40 @@ module _ (t c : List Route) (X : Bits) (M : Route) where
             let k : q ⊑ d .prefix = common-⊑ qX (omega arith) in
             absurd (apart-⊑ q (d .prefix) (s .overlaps-nothing d m) .0 k)
 
-    -- every address in it has this match
-    pub stored-match : OneEach t → (Y : Bits) → contains (take (newLength t c X M) X) Y ≡ true → match t Y ≡ some M
-    stored-match one Y h = longest-match t Y one (record {
-      is-route = L .is-route;
-      covers = ⊑-contains (⊑-trans MP PY);
-      longest = λ r m k. go r m (contains-⊑ (r .prefix) Y k) (decLe (length (r .prefix)) (length (M .prefix)));
-    })
-      where
-        inX : take (newLength t c X M) X ⊑ X
-        inX = take-⊑ (newLength t c X M) X
+-- every address in a prefix that may be stored has the same match
+module _ (t : Table) (c : Cache) (X : Bits) (M : Route) (p : Bits) (L : Longest t X M) (S : Storable t c X M p) where
+  pX : p ⊑ X
+  pX = contains-⊑ p X (S .contains-address)
 
-        PY : take (newLength t c X M) X ⊑ Y
-        PY = contains-⊑ _ Y h
+  pub storable-match : OneEach t → (Y : Bits) → contains p Y ≡ true → match t Y ≡ some M
+  storable-match one Y h = longest-match t Y one (record {
+    is-route = L .is-route;
+    covers = ⊑-contains (⊑-trans Mp pY);
+    longest = λ r m k. go r m (contains-⊑ (r .prefix) Y k) (decLe (length (r .prefix)) (length (M .prefix)));
+  })
+    where
+      pY : p ⊑ Y
+      pY = contains-⊑ p Y h
 
-        MP : M .prefix ⊑ take (newLength t c X M) X
-        MP = ⊑-by-length (contains-⊑ (M .prefix) X (L .covers)) inX (stored-storable .no-shorter)
+      Mp : M .prefix ⊑ p
+      Mp = ⊑-by-length (contains-⊑ (M .prefix) X (L .covers)) pX (S .no-shorter)
 
-        go : (r : Route) → r ∈ t → r .prefix ⊑ Y → Dec (length (r .prefix) ≤ length (M .prefix)) → length (r .prefix) ≤ length (M .prefix)
-        go r m k (yes l) = l
-        go r m k (no l) = sub (⊑-total k PY)
-          where
-            sub : (r .prefix ⊑ take (newLength t c X M) X) ⊎ (take (newLength t c X M) X ⊑ r .prefix) → length (r .prefix) ≤ length (M .prefix)
-            sub (inl a) = L .longest r m (⊑-contains (⊑-trans a inX))
-            sub (inr a) = absurd (not-⊑ _ (r .prefix) (stored-storable .no-longer-route r m (omega arith)) a)
+      go : (r : Route) → r ∈ t → r .prefix ⊑ Y → Dec (length (r .prefix) ≤ length (M .prefix)) → length (r .prefix) ≤ length (M .prefix)
+      go r m k (yes l) = l
+      go r m k (no l) = sub (⊑-total k pY)
+        where
+          sub : (r .prefix ⊑ p) ⊎ (p ⊑ r .prefix) → length (r .prefix) ≤ length (M .prefix)
+          sub (inl a) = L .longest r m (⊑-contains (⊑-trans a pX))
+          sub (inr a) = absurd (not-⊑ p (r .prefix) (S .no-longer-route r m (omega arith)) a)
+
+  pub storable-covered : OneEach t → Covered t (record { prefix = p; hop = M .hop })
+  storable-covered one = record {
+    cover = M;
+    is-match = storable-match one p (⊑-contains (⊑-refl p));
+    its-hop = refl;
+    none-inside = λ r m. is-false (λ k. let l = strict-⊑ (r .prefix) p k in not-⊑ p (r .prefix) (S .no-longer-route r m (omega (arith, S .no-shorter, l .1))) (l .0));
+  }
 
 -- there is only one shortest
-pub one-shortest : (t c : List Route) (X : Bits) (M : Route) {p q : Bits} → Shortest t c X M p → Shortest t c X M q → p ≡ q
+pub one-shortest : (t : Table) (c : Cache) (X : Bits) (M : Route) {p q : Bits} → Shortest t c X M p → Shortest t c X M q → p ≡ q
 one-shortest t c X M {p} {q} a b = ⊑-eq (⊑-by-length (contains-⊑ p X (a .storable .contains-address)) (contains-⊑ q X (b .storable .contains-address)) (a .shortest q (b .storable))) (b .shortest p (a .storable))

@@ -20,11 +20,11 @@ use Rattle.prefix.proofs.Tests.{contains-⊑, eq-same, not-⊑, same-eq, strict
 use Rattle.model.specs.Demands.{NoLonger, left}
 use Rattle.model.specs.Lists.{_∈_, any, keep, p-cons, p-nil}
 use Rattle.model.specs.Nodes.{branches, examined, isExamined, isRoot, nodes, parent, towards, withoutRepeats}
-use Rattle.model.specs.Routes.{Route}
+use Rattle.model.specs.Routes.{Route, Table}
 use Rattle.model.proofs.ListLaws.{Pairwise-keep, Unique, any-false, any-in, biggest-is, biggest-none, flat-in, in-flat, in-keep, in-map, keep-in, map-in, none-any, same-length, subset-length}
 
 -- v is a route, or the longest common prefix of two routes neither of which lies inside the other
-pub data Node (t : List Route) (v : Bits) : Type 0 where
+pub data Node (t : Table) (v : Bits) : Type 0 where
   of-one : (r : Route) → r ∈ t → v ≡ r .prefix → Node t v
   of-two : (r s : Route) → r ∈ t → s ∈ t → overlap (r .prefix) (s .prefix) ≡ false → v ≡ shared (r .prefix) (s .prefix) → Node t v
 
@@ -61,7 +61,7 @@ without-repeats-unique (a ∷ l) = go (any (same a) l) refl (without-repeats-uni
     go true h u = u
     go false h u = p-cons (λ y m e. clash (eq-same e) (any-false (same a) h (without-repeats-in l m))) u
 
-pub node-in : (t : List Route) (v : Bits) → v ∈ nodes t → Node t v
+pub node-in : (t : Table) (v : Bits) → v ∈ nodes t → Node t v
 unfolding nodes branches
 node-in t v m = go (List·Memᴰ·append-cases ps (without-repeats-in (ps ++ branches ps) m))
   where
@@ -81,7 +81,7 @@ node-in t v m = go (List·Memᴰ·append-cases ps (without-repeats-in (ps ++ bra
         let s = map-in (λ (r : Route). r .prefix) t (k .0) in
         two (a .0) (b .0) (r .0) (s .0) (r .1) (s .1) (r .2) (s .2) (not-false (overlap (a .0) (b .0)) (k .1)) (b .2)
 
-pub in-node : (t : List Route) (v : Bits) → Node t v → v ∈ nodes t
+pub in-node : (t : Table) (v : Bits) → Node t v → v ∈ nodes t
 unfolding nodes branches
 in-node t v n = in-without-repeats (ps ++ branches ps) (go n)
   where
@@ -94,14 +94,14 @@ in-node t v n = in-without-repeats (ps ++ branches ps) (go n)
         let k : s .prefix ∈ keep (λ (q : Bits). not (overlap (r .prefix) q)) ps = in-keep (λ (q : Bits). not (overlap (r .prefix) q)) (in-map (λ (r : Route). r .prefix) n) (rw h refl) in
         Memᴰ·append-right ps (in-flat (λ (p : Bits). map (shared p) (keep (λ (q : Bits). not (overlap p q)) ps)) (in-map (λ (r : Route). r .prefix) m) (Memᴰ·cast e (in-map (shared (r .prefix)) k)))
 
-pub nodes-unique : (t : List Route) → Unique (nodes t)
+pub nodes-unique : (t : Table) → Unique (nodes t)
 unfolding nodes
 nodes-unique t = without-repeats-unique _
 
 -- ---- the nodes are closed under longest common prefixes
 
 -- a node is a prefix of a route
-pub node-route : {t : List Route} {v : Bits} → Node t v → (r : Route) × (r ∈ t) × (v ⊑ r .prefix)
+pub node-route : {t : Table} {v : Bits} → Node t v → (r : Route) × (r ∈ t) × (v ⊑ r .prefix)
 node-route (of-one r m e) = (r, m, ⊑-of-eq e)
 node-route (of-two r s m n h e) = (r, m, ⊑-trans (⊑-of-eq e) (shared-left (r .prefix) (s .prefix)))
 
@@ -128,7 +128,7 @@ module _ {u v r s : Bits} (p : u ⊑ r) (q : v ⊑ s) (n : ¬ (u ⊑ v)) (m : ¬
   pub apart-above : overlap r s ≡ false
   apart-above = ⊑-apart (λ h. no-both (⊑-trans p h) q) (λ h. no-both p (⊑-trans q h))
 
-pub branch-node : {t : List Route} {u v : Bits} → Node t u → Node t v → ¬ (u ⊑ v) → ¬ (v ⊑ u) → Node t (shared u v)
+pub branch-node : {t : Table} {u v : Bits} → Node t u → Node t v → ¬ (u ⊑ v) → ¬ (v ⊑ u) → Node t (shared u v)
 branch-node a b n m =
     let r = node-route a in
     let s = node-route b in
@@ -142,13 +142,13 @@ shared-< {u} {v} m = go (decLe (length v) (length (shared u v)))
     go (no h) = omega arith
 
 -- ---- examined, without root and parent: v is examined where each node above it lies on the way to X, and v turns there as X does
-abbrev pub Above : List Route → Bits → Bits → Type 0
+abbrev pub Above : Table → Bits → Bits → Type 0
 Above t v u = (u ∈ nodes t) × (u ⊑ v) × (length u < length v)
 
-abbrev pub OnWay : List Route → Bits → Bits → Type 0
+abbrev pub OnWay : Table → Bits → Bits → Type 0
 OnWay t X v = (u : Bits) → Above t v u → take (suc (length u)) v ⊑ X
 
-pub parent-above : (t : List Route) (v p : Bits) → parent (nodes t) v ≡ some p → Above t v p × ((u : Bits) → Above t v u → length u ≤ length p)
+pub parent-above : (t : Table) (v p : Bits) → parent (nodes t) v ≡ some p → Above t v p × ((u : Bits) → Above t v u → length u ≤ length p)
 unfolding parent
 parent-above t v p e =
     let b = biggest-is length (keep (λ (p : Bits). strictlyInside v p) (nodes t)) e in
@@ -156,16 +156,16 @@ parent-above t v p e =
     let s = strict-⊑ v p (k .1) in
     ((k .0, s .0, s .1), λ u a. b .most u (in-keep (λ (p : Bits). strictlyInside v p) (a .0) (⊑-strict (a .1) (a .2))))
 
-pub parent-none : (t : List Route) (v : Bits) → parent (nodes t) v ≡ none → (u : Bits) → Above t v u → ⊥
+pub parent-none : (t : Table) (v : Bits) → parent (nodes t) v ≡ none → (u : Bits) → Above t v u → ⊥
 unfolding parent
 parent-none t v e u a = biggest-none length (keep (λ (p : Bits). strictlyInside v p) (nodes t)) e (in-keep (λ (p : Bits). strictlyInside v p) (a .0) (⊑-strict (a .1) (a .2)))
 
-pub root-above : (t : List Route) (v : Bits) → isRoot (nodes t) v ≡ true → (u : Bits) → Above t v u → ⊥
+pub root-above : (t : Table) (v : Bits) → isRoot (nodes t) v ≡ true → (u : Bits) → Above t v u → ⊥
 unfolding isRoot
 root-above t v e u a = clash (lt-ltb (length u) (length v) (a .2)) (any-false (λ (u : Bits). ltb (length u) (length v)) (not-false _ e) (a .0))
 
 -- two nodes with nothing of length k or more strictly above them, that agree in their first k bits, are one
-pub node-one : (t : List Route) (v w z : Bits) → v ∈ nodes t → w ∈ nodes t → z ⊑ v → z ⊑ w
+pub node-one : (t : Table) (v w z : Bits) → v ∈ nodes t → w ∈ nodes t → z ⊑ v → z ⊑ w
     → ((u : Bits) → Above t v u → length u < length z) → ((u : Bits) → Above t w u → length u < length z) → v ≡ w
 node-one t v w z m n p q av aw = go (either (contains v w)) (either (contains w v))
   where
@@ -181,7 +181,7 @@ node-one t v w z m n p q av aw = go (either (contains v w)) (either (contains w 
         absurd (omega (arith, aw (shared v w) (in-node t (shared v w) f, shared-right v w, shared-< (not-⊑ w v k)), ⊑-length (shared-great p q)))
 
 -- what has no parent is the root
-pub none-root : (t : List Route) (v : Bits) → v ∈ nodes t → parent (nodes t) v ≡ none → isRoot (nodes t) v ≡ true
+pub none-root : (t : Table) (v : Bits) → v ∈ nodes t → parent (nodes t) v ≡ none → isRoot (nodes t) v ≡ true
 unfolding isRoot
 none-root t v m e = rw (none-any (λ (u : Bits). ltb (length u) (length v)) (nodes t) (λ u n. le-ltb (length u) (length v) (short u n (either (contains v u)) (either (contains u v))))) refl
   where
@@ -213,7 +213,7 @@ take-towards X [] p h l e = absurd (not-suc-le-zero l)
 take-towards (c ∷ X) (b ∷ v) [] h l (⊑cons g e) = rw (g, beq-refl c)
 take-towards (c ∷ X) (b ∷ v) (a ∷ p) (⊑cons f h) l (⊑cons g e) = rw (f ∙ g, beq-refl c) (take-towards X v p h (le-of-suc-le-suc l) e)
 
-pub examined-way : (t : List Route) (X v : Bits) → length v ≤ length X → isExamined (nodes t) X v ≡ true → OnWay t X v
+pub examined-way : (t : Table) (X v : Bits) → length v ≤ length X → isExamined (nodes t) X v ≡ true → OnWay t X v
 unfolding isExamined
 examined-way t X v k e u a = go (or-true (isRoot (nodes t) v) _ e)
   where
@@ -229,7 +229,7 @@ examined-way t X v k e u a = go (or-true (isRoot (nodes t) v) _ e)
     go (inl h) = absurd (root-above t v h u a)
     go (inr h) = way (parent (nodes t) v) refl h
 
-pub way-examined : (t : List Route) (X v : Bits) → v ∈ nodes t → OnWay t X v → isExamined (nodes t) X v ≡ true
+pub way-examined : (t : Table) (X v : Bits) → v ∈ nodes t → OnWay t X v → isExamined (nodes t) X v ≡ true
 unfolding isExamined
 way-examined t X v m w = go (parent (nodes t) v) refl
   where
@@ -237,11 +237,11 @@ way-examined t X v m w = go (parent (nodes t) v) refl
     go none f = rw (none-root t v m f)
     go (some p) f = let b = parent-above t v p f .0 in or-right (isRoot (nodes t) v) _ (take-towards X v p (b .1) (b .2) (w p b))
 
-pub node-short : (n : ℕ) (t : List Route) → NoLonger n t → (v : Bits) → v ∈ nodes t → length v ≤ n
+pub node-short : (n : ℕ) (t : Table) → NoLonger n t → (v : Bits) → v ∈ nodes t → length v ≤ n
 node-short n t s v m = let r = node-route (node-in t v m) in omega (arith, ⊑-length (r .2), s (r .0) (r .1))
 
 -- any list of the examined nodes, each once, has the length that is reported
-pub examined-count : (t : List Route) (X : Bits) → NoLonger (length X) t → (l : List Bits) → Unique l
+pub examined-count : (t : Table) (X : Bits) → NoLonger (length X) t → (l : List Bits) → Unique l
     → ((v : Bits) → v ∈ l → (v ∈ nodes t) × OnWay t X v) → ((v : Bits) → v ∈ nodes t → OnWay t X v → v ∈ l) → examined t X ≡ length l
 unfolding examined
 examined-count t X s l u to from = same-length (Pairwise-keep (isExamined (nodes t) X) (nodes-unique t)) u
@@ -279,15 +279,15 @@ rankOf : Option Bits → ℕ
 rankOf none = 0
 rankOf (some p) = suc (length p)
 
-rank : List Route → Bits → ℕ
+rank : Table → Bits → ℕ
 rank t v = rankOf (parent (nodes t) v)
 
-record Ranked (t : List Route) (X v : Bits) (k : ℕ) : Type 0 where
+record Ranked (t : Table) (X v : Bits) (k : ℕ) : Type 0 where
   on-way : take k v ⊑ X
   within : k ≤ length v
   past : (u : Bits) → Above t v u → length u < k
 
-ranked : (t : List Route) (X v : Bits) → OnWay t X v → Ranked t X v (rank t v)
+ranked : (t : Table) (X v : Bits) → OnWay t X v → Ranked t X v (rank t v)
 unfolding rank rankOf
 ranked t X v w = go (parent (nodes t) v) refl
   where
@@ -295,7 +295,7 @@ ranked t X v w = go (parent (nodes t) v) refl
     go none f = record { on-way = ⊑nil; within = omega arith; past = λ u a. absurd (parent-none t v f u a) }
     go (some p) f = let b = parent-above t v p f in record { on-way = w p (b .0); within = b .0 .2; past = λ u a. omega (arith, b .1 u a) }
 
-pub examined-≤ : (t : List Route) (X : Bits) → NoLonger (length X) t → examined t X ≤ suc (length X)
+pub examined-≤ : (t : Table) (X : Bits) → NoLonger (length X) t → examined t X ≤ suc (length X)
 unfolding examined
 examined-≤ t X s =
     let h = subset-length (unique-map (rank t) (Pairwise-keep f (nodes-unique t)) one) (upto (suc (length X)))

@@ -13,9 +13,9 @@ use Rattle.prefix.proofs.Order.{⊑-by-length, ⊑-eq}
 use Rattle.prefix.proofs.Tests.{strict-⊑}
 use Rattle.model.specs.Demands.{Alike, AllFull, Distinct, LegalState, SameRoutes, Standing, Subset, and-calls, announced, no-calls, stood}
 use Rattle.model.specs.Lists.{_∈_, first, keep, p-cons, p-nil}
-use Rattle.model.specs.Model.{Limits, Looked, changed, fresh, leaves, lookCache, lookTable, lookup, newLength, refreshed, refusal, removed}
+use Rattle.model.specs.Model.{Cache, Entry, Limits, Looked, changed, fresh, leaves, lookCache, lookTable, lookup, newLength, refreshed, refusal, removed}
 use Rattle.model.specs.Nodes.{examined, isExamined, isRoot, nodes, parent}
-use Rattle.model.specs.Routes.{Action, Route, Update, announce, held, match, updated, withdraw}
+use Rattle.model.specs.Routes.{Action, Route, Table, Update, announce, held, match, updated, withdraw}
 use Rattle.model.specs.Runs.{Call, Outcome, State, accepted, answers, judged, look, looked, step, update}
 use Rattle.model.proofs.Legal.{legal-step}
 use Rattle.model.proofs.ListLaws.{Pairwise-keep, Unique, any-same, biggest-same, in-keep, keep-in, same-length}
@@ -23,13 +23,13 @@ use Rattle.model.proofs.Match.{Part, match-agree, new-entry, new-match,
 use Rattle.model.proofs.NodeLaws.{Node, in-node, node-in, nodes-unique, of-one, of-two}
 use Rattle.model.proofs.Updates.{in-updated, new-in, updated-distinct, updated-in}
 
-pub flip : {t u : List Route} → SameRoutes t u → SameRoutes u t
+pub flip : {t u : Table} → SameRoutes t u → SameRoutes u t
 flip s = record { to = s .from; from = s .to }
 
-pub match-same : (t u : List Route) (X : Bits) → Distinct u → SameRoutes t u → match t X ≡ match u X
+pub match-same : (t u : Table) (X : Bits) → Distinct u → SameRoutes t u → match t X ≡ match u X
 match-same t u X d s = match-agree t u X X (one-each d) (λ r m h. (s .to r m, h)) (λ r m h. (s .from r m, h))
 
-new-le : (t u c : List Route) (X : Bits) (M : Route) → Subset t u → newLength t c X M ≤ newLength u c X M
+new-le : (t u : Table) (c : Cache) (X : Bits) (M : Route) → Subset t u → newLength t c X M ≤ newLength u c X M
 new-le t u c X M s = go (newLength t c X M) (new-part t c X M)
   where
     go : (n : ℕ) → Part t c X M n → n ≤ newLength u c X M
@@ -37,14 +37,14 @@ new-le t u c X M s = go (newLength t c X M) (new-part t c X M)
     go n (of-route r m h e) = rw e (new-route u c X M r (s r m) h)
     go n (of-entry d m e) = rw e (new-entry u c X M d m)
 
-pub new-same : (t u c : List Route) (X : Bits) (M : Route) → SameRoutes t u → newLength t c X M ≡ newLength u c X M
+pub new-same : (t u : Table) (c : Cache) (X : Bits) (M : Route) → SameRoutes t u → newLength t c X M ≡ newLength u c X M
 new-same t u c X M s = omega (arith, new-le t u c X M (s .to), new-le u t c X M (s .from))
 
-node-sub : {t u : List Route} {v : Bits} → Subset t u → Node t v → Node u v
+node-sub : {t u : Table} {v : Bits} → Subset t u → Node t v → Node u v
 node-sub f (of-one r m e) = of-one r (f r m) e
 node-sub f (of-two r s m n h e) = of-two r s (f r m) (f s n) h e
 
-nodes-sub : (t u : List Route) → Subset t u → Subset (nodes t) (nodes u)
+nodes-sub : (t u : Table) → Subset t u → Subset (nodes t) (nodes u)
 nodes-sub t u f v m = in-node u v (node-sub f (node-in t v m))
 
 -- ---- nodes examined
@@ -69,11 +69,11 @@ pub isExamined-same : (ns ms : List Bits) (X v : Bits) → Subset ns ms → Subs
 unfolding isExamined isRoot
 isExamined-same ns ms X v s t = rw (any-same (λ (u : Bits). ltb (length u) (length v)) ns ms s t, parent-same ns ms v s t)
 
-pub examined-same : (t u : List Route) (X : Bits) → SameRoutes t u → examined t X ≡ examined u X
+pub examined-same : (t u : Table) (X : Bits) → SameRoutes t u → examined t X ≡ examined u X
 unfolding examined
 examined-same t u X s = same-length (Pairwise-keep (isExamined (nodes t) X) (nodes-unique t)) (Pairwise-keep (isExamined (nodes u) X) (nodes-unique u)) (sub t u s) (sub u t (flip s))
   where
-    sub : (t u : List Route) → SameRoutes t u → Subset (keep (isExamined (nodes t) X) (nodes t)) (keep (isExamined (nodes u) X) (nodes u))
+    sub : (t u : Table) → SameRoutes t u → Subset (keep (isExamined (nodes t) X) (nodes t)) (keep (isExamined (nodes u) X) (nodes u))
     sub t u s v m =
         let a = keep-in (isExamined (nodes t) X) (nodes t) m in
         let f = nodes-sub t u (s .to) in
@@ -82,9 +82,9 @@ examined-same t u X s = same-length (Pairwise-keep (isExamined (nodes t) X) (nod
 
 -- ---- calls
 
-pub lookup-same : (t u c : List Route) (limit : ℕ) (X : Bits) → Distinct u → SameRoutes t u → lookup t c limit X ≡ lookup u c limit X
+pub lookup-same : (t u : Table) (c : Cache) (limit : ℕ) (X : Bits) → Distinct u → SameRoutes t u → lookup t c limit X ≡ lookup u c limit X
 unfolding lookup lookCache lookTable
-lookup-same t u c limit X d s = onCache (first (λ (e : Route). contains (e .prefix) X) c)
+lookup-same t u c limit X d s = onCache (first (λ (e : Entry). contains (e .prefix) X) c)
   where
     onTable : (o : Option Route) → lookTable t c limit X o ≡ lookTable u c limit X o
     onTable none = rw (examined-same t u X s)
@@ -94,32 +94,32 @@ lookup-same t u c limit X d s = onCache (first (λ (e : Route). contains (e .pre
     onCache none = rw (match-same t u X d s) (onTable (match u X))
     onCache (some e) = refl
 
-updated-sub : (t u : List Route) (w : Update) → Subset t u → Subset (updated t w) (updated u w)
+updated-sub : (t u : Table) (w : Update) → Subset t u → Subset (updated t w) (updated u w)
 updated-sub t u w s r m = go (updated-in t w r m)
   where
     go : Standing t w r → r ∈ updated u w
     go (announced h e z) = Memᴰ·cast z (new-in u w h e)
     go (stood m n) = in-updated u w r (s r m) n
 
-pub updated-same : (t u : List Route) (w : Update) → SameRoutes t u → SameRoutes (updated t w) (updated u w)
+pub updated-same : (t u : Table) (w : Update) → SameRoutes t u → SameRoutes (updated t w) (updated u w)
 updated-same t u w s = record { to = updated-sub t u w (s .to); from = updated-sub u t w (s .from) }
 
-pub leaves-same : (t u : List Route) (w : Update) → SameRoutes t u → leaves t w ≡ leaves u w
+pub leaves-same : (t u : Table) (w : Update) → SameRoutes t u → leaves t w ≡ leaves u w
 unfolding leaves
 leaves-same t u w s = fun-ext (λ e. rw (any-same (λ (r : Route). strictlyInside (r .prefix) (e .prefix)) t u (s .to) (s .from), any-same (λ (r : Route). contains (r .prefix) (e .prefix)) t u (s .to) (s .from)))
 
-pub fresh-same : (t u : List Route) → Distinct u → SameRoutes t u → fresh t ≡ fresh u
+pub fresh-same : (t u : Table) → Distinct u → SameRoutes t u → fresh t ≡ fresh u
 unfolding fresh
 fresh-same t u d s = fun-ext (λ e. rw (match-same t u (e .prefix) d s))
 
-pub length-same : (t u : List Route) → Distinct t → Distinct u → SameRoutes t u → length t ≡ length u
+pub length-same : (t u : Table) → Distinct t → Distinct u → SameRoutes t u → length t ≡ length u
 length-same t u d e s = same-length (once d) (once e) (s .to) (s .from)
   where
     once : {l : List Route} → Distinct l → Unique l
     once p-nil = p-nil
     once (p-cons h k) = p-cons (λ y m z. h y m (ap (λ (r : Route). r .prefix) z)) (once k)
 
-pub refusal-same : (L : Limits) (t u : List Route) (n : ℕ) (p : Bits) (a : Action) → Distinct t → Distinct u → SameRoutes t u → refusal L t n p a ≡ refusal L u n p a
+pub refusal-same : (L : Limits) (t u : Table) (n : ℕ) (p : Bits) (a : Action) → Distinct t → Distinct u → SameRoutes t u → refusal L t n p a ≡ refusal L u n p a
 unfolding refusal held
 refusal-same L t u n p (announce h) d e s = rw (any-same (λ (r : Route). same (r .prefix) p) t u (s .to) (s .from), length-same t u d e s)
 refusal-same L t u n p withdraw d e s = rw (any-same (λ (r : Route). same (r .prefix) p) t u (s .to) (s .from))

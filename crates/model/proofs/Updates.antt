@@ -23,7 +23,7 @@ use Rattle.model.proofs.ListLaws.{Pairwise-keep, any-false, any-in, in-
 use Rattle.model.proofs.Match.{longest-match, match-agree, match-longest, match-none, one-each}
 
 -- what the updated table holds
-pub in-updated : (t : List Route) (u : Update) (r : Route) → r ∈ t → ¬ (r .prefix ≡ u .prefix) → r ∈ updated t u
+pub in-updated : (t : Table) (u : Update) (r : Route) → r ∈ t → ¬ (r .prefix ≡ u .prefix) → r ∈ updated t u
 unfolding updated withAnnounced
 in-updated t u r m n = go (u .action)
   where
@@ -34,7 +34,7 @@ in-updated t u r m n = go (u .action)
     go (announce h) = List·Memᴰ·tail k
     go withdraw = k
 
-pub updated-in : (t : List Route) (u : Update) (r : Route) → r ∈ updated t u → Standing t u r
+pub updated-in : (t : Table) (u : Update) (r : Route) → r ∈ updated t u → Standing t u r
 unfolding updated withAnnounced
 updated-in t u r m = go (u .action) refl m
   where
@@ -49,7 +49,7 @@ updated-in t u r m = go (u .action) refl m
     go (announce h) e m = sub h e (List·Memᴰ·cases-cons m)
     go withdraw e m = old m
 
-pub updated-distinct : (t : List Route) (u : Update) → Distinct t → Distinct (updated t u)
+pub updated-distinct : (t : Table) (u : Update) → Distinct t → Distinct (updated t u)
 unfolding updated withAnnounced
 updated-distinct t u d = go (u .action)
   where
@@ -63,7 +63,7 @@ updated-distinct t u d = go (u .action)
     go (announce h) = p-cons (λ y m k. clash (eq-same (sym k)) (not-false _ (keep-in f t m .1))) rest
     go withdraw = rest
 
-pub new-in : (t : List Route) (u : Update) (h : ℕ) → u .action ≡ announce h → record { prefix = u .prefix; hop = h } ∈ updated t u
+pub new-in : (t : Table) (u : Update) (h : ℕ) → u .action ≡ announce h → record { prefix = u .prefix; hop = h } ∈ updated t u
 unfolding updated withAnnounced
 new-in t u h e = rw e (List·Memᴰ·head refl)
 
@@ -73,7 +73,7 @@ standing-in t u r (stood m n) = in-updated t u r m n
 
 -- ---- the entries that leave
 
-pub leaves-leaving : (t : List Route) (u : Update) (e : Route) → leaves t u e ≡ true → Leaving t u e
+pub leaves-leaving : (t : Table) (u : Update) (e : Entry) → leaves t u e ≡ true → Leaving t u e
 unfolding leaves withdraws
 leaves-leaving t u e h = go (or-true (any (λ (r : Route). strictlyInside (r .prefix) (e .prefix)) t || not (any (λ (r : Route). contains (r .prefix) (e .prefix)) t)) _ h)
   where
@@ -89,7 +89,7 @@ leaves-leaving t u e h = go (or-true (any (λ (r : Route). strictlyInside (r .pr
     go (inl k) = sub (or-true _ _ k)
     go (inr k) = act (u .action) refl k
 
-pub leaving-leaves : (t : List Route) (u : Update) (e : Route) → Leaving t u e → leaves t u e ≡ true
+pub leaving-leaves : (t : Table) (u : Update) (e : Entry) → Leaving t u e → leaves t u e ≡ true
 unfolding leaves withdraws
 leaving-leaves t u e (route-inside r m h) = rw (in-any (λ (r : Route). strictlyInside (r .prefix) (e .prefix)) m h)
 leaving-leaves t u e (uncovered h) = rw (none-any (λ (r : Route). contains (r .prefix) (e .prefix)) t h) (go (any (λ (r : Route). strictlyInside (r .prefix) (e .prefix)) t))
@@ -99,37 +99,10 @@ leaving-leaves t u e (uncovered h) = rw (none-any (λ (r : Route). contains (r .
     go false = refl
 leaving-leaves t u e (withdrawn a z) = or-right (any (λ (r : Route). strictlyInside (r .prefix) (e .prefix)) t || not (any (λ (r : Route). contains (r .prefix) (e .prefix)) t)) _ (rw (a, eq-same z))
 
--- an entry that does not overlap the updated prefix is kept, with every field
-module _ (t : List Route) (u : Update) (e : Route) (d : Distinct t) (E : Covered t e) (a : overlap (e .prefix) (u .prefix) ≡ false) where
-  off : (r : Route) → (contains (r .prefix) (e .prefix) ≡ true) ⊎ (strictlyInside (r .prefix) (e .prefix) ≡ true) → ¬ (r .prefix ≡ u .prefix)
-  off r (inl h) z = apart-⊑ (e .prefix) (u .prefix) a .1 (rw z at (contains-⊑ (r .prefix) (e .prefix) h))
-  off r (inr h) z = apart-⊑ (e .prefix) (u .prefix) a .0 (rw z at (strict-⊑ (r .prefix) (e .prefix) h .0))
-
-  back : (r : Route) → ¬ (r .prefix ≡ u .prefix) → Standing t u r → r ∈ t
-  back r n (announced h f z) = absurd (n (ap (λ (r : Route). r .prefix) z))
-  back r n (stood m k) = m
-
-  pub same-match : match (updated t u) (e .prefix) ≡ match t (e .prefix)
-  same-match = match-agree (updated t u) t (e .prefix) (e .prefix) (one-each d)
-      (λ r m h. (back r (off r (inl h)) (updated-in t u r m), h))
-      (λ r m h. (in-updated t u r m (off r (inl h)), h))
-
-  pub apart-stays : leaves (updated t u) u e ≡ false
-  apart-stays = is-false (λ h. go (leaves-leaving (updated t u) u e h))
-    where
-      go : Leaving (updated t u) u e → ⊥
-      go (route-inside r m h) = clash h (E .none-inside r (back r (off r (inr h)) (updated-in t u r m)))
-      go (uncovered h) =
-          let l = match-longest t (e .prefix) (E .is-match) in
-          clash (l .covers) (h (E .cover) (in-updated t u (E .cover) (l .is-route) (off (E .cover) (inl (l .covers)))))
-      go (withdrawn x z) = apart-⊑ (e .prefix) (u .prefix) a .0 (⊑-of-eq (sym z))
-
-  pub apart-unchanged : fresh (updated t u) e ≡ e
-  unfolding fresh hopOf
-  apart-unchanged = rw (same-match, E .is-match, ← E .its-hop)
+-- ---- the cache after an update, entry by entry
 
 -- what is kept is as it should be
-pub fresh-entry : (t : List Route) (u : Update) (e : Route) → leaves t u e ≡ false → Covered t (fresh t e)
+pub fresh-entry : (t : Table) (u : Update) (e : Entry) → leaves t u e ≡ false → Covered t (fresh t e)
 unfolding fresh hopOf
 fresh-entry t u e h = go (match t (e .prefix)) refl
   where
@@ -142,7 +115,7 @@ fresh-entry t u e h = go (match t (e .prefix)) refl
       none-inside = λ r m. is-false (λ k. clash (leaving-leaves t u e (route-inside r m k)) h);
     }
 
-fresh-prefix : (t : List Route) (e : Route) → fresh t e .prefix ≡ e .prefix
+fresh-prefix : (t : Table) (e : Entry) → fresh t e .prefix ≡ e .prefix
 unfolding fresh
 fresh-prefix t e = refl
 
@@ -153,65 +126,6 @@ fresh-unchanged t e h = rw (← h)
 pub covered-fresh : {t : Table} {e : Entry} → Covered t e → fresh t e ≡ e
 unfolding fresh hopOf
 covered-fresh E = rw (E .is-match, ← E .its-hop)
-
--- the entries that do not overlap the updated prefix are the same list as before
-pub apart-same : (t : List Route) (u : Update) (c : List Route) → Distinct t → ((e : Route) → e ∈ c → Covered t e)
-    → keep (λ e. not (overlap (e .prefix) (u .prefix))) (refreshed (updated t u) u c) ≡ keep (λ e. not (overlap (e .prefix) (u .prefix))) c
-unfolding refreshed keep
-apart-same t u [] d E = refl
-apart-same t u (e ∷ c) d E = go (overlap (e .prefix) (u .prefix)) refl (leaves (updated t u) u e) refl (apart-same t u c d (λ x m. E x (List·Memᴰ·tail m)))
-  where
-    out : Route → Bool
-    out e = not (overlap (e .prefix) (u .prefix))
-
-    rest : List Route
-    rest = keep (λ e. not (leaves (updated t u) u e)) c
-
-    same-pre : out (fresh (updated t u) e) ≡ out e
-    same-pre = rw fresh-prefix
-
-    go : (b : Bool) → overlap (e .prefix) (u .prefix) ≡ b → (l : Bool) → leaves (updated t u) u e ≡ l
-        → keep out (map (fresh (updated t u)) rest) ≡ keep out c
-        → keep out (map (fresh (updated t u)) (cond (not l) (e ∷ rest) rest)) ≡ cond (not b) (e ∷ keep out c) (keep out c)
-    go true a true h rec = rec
-    go true a false h rec = rw (same-pre, a) rec
-    go false a true h rec = absurd (clash h (apart-stays t u e d (E e (List·Memᴰ·head refl)) a))
-    go false a false h rec = rw (apart-unchanged t u e d (E e (List·Memᴰ·head refl)) a, a) (ap (λ (l : List Route). e ∷ l) rec)
-
--- an entry with the announced prefix itself is kept and takes the new hop
-pub announced-kept : (t : List Route) (p : Bits) (h : ℕ) (e : Route) → Distinct t → Covered t e → e .prefix ≡ p
-    → (leaves (updated t (record { prefix = p; action = announce h })) (record { prefix = p; action = announce h }) e ≡ false)
-    × (fresh (updated t (record { prefix = p; action = announce h })) e .hop ≡ h)
-unfolding fresh hopOf
-announced-kept t p h e d E z = (is-false (λ k. go (leaves-leaving (updated t u) u e k)), rw (longest-match (updated t u) (e .prefix) (one-each (updated-distinct t u d)) best) refl)
-  where
-    u : Update
-    u = record { prefix = p; action = announce h }
-
-    new : Route
-    new = record { prefix = p; hop = h }
-
-    go : Leaving (updated t u) u e → ⊥
-    go (route-inside r m k) = old r k (updated-in t u r m)
-      where
-        old : (r : Route) → strictlyInside (r .prefix) (e .prefix) ≡ true → Standing t u r → ⊥
-        old r k (announced x f y) = omega (arith, strict-⊑ (r .prefix) (e .prefix) k .1, ap length (ap (λ (r : Route). r .prefix) y ∙ sym z))
-        old r k (stood m n) = clash k (E .none-inside r m)
-    go (uncovered k) = clash (⊑-contains (⊑-of-eq (sym z))) (k new (new-in t u h refl))
-    go (withdrawn f y) = let w : _≡_ {A = ℕ} 0 1 = cc in omega arith
-
-    best : Longest (updated t u) (e .prefix) new
-    best = record { is-route = new-in t u h refl; covers = ⊑-contains (⊑-of-eq (sym z)); longest = λ r m k. omega (arith, ⊑-length (contains-⊑ (r .prefix) (e .prefix) k), ap length z) }
-
--- an entry that an announced prefix lies strictly inside leaves, whatever its hop
-pub announced-inside-leaves : (t : Table) (u : Update) (h : ℕ) (e : Entry) → u .action ≡ announce h → strictlyInside (u .prefix) (e .prefix) ≡ true → leaves (updated t u) u e ≡ true
-announced-inside-leaves t u h e f k = leaving-leaves (updated t u) u e (route-inside (record { prefix = u .prefix; hop = h }) (new-in t u h f) k)
-
--- an entry with the withdrawn prefix leaves, whatever still covers it
-pub withdrawn-leaves : (t : Table) (u : Update) (e : Entry) → u .action ≡ withdraw → u .prefix ≡ e .prefix → leaves (updated t u) u e ≡ true
-withdrawn-leaves t u e f k = leaving-leaves (updated t u) u e (withdrawn f k)
-
--- ---- the cache after an update, entry by entry
 
 pub refreshed-is : (t : Table) (u : Update) (c : Cache) → Refreshed t u c (refreshed t u c) (removed t u c) (changed t u c)
 unfolding refreshed removed changed keep
@@ -261,6 +175,95 @@ only-refreshed {t} {u} (new-hop {E = e} {D = d} n C p m rest) =
     let same : fresh t e ≡ d = fresh-by-prefix t e d (sym p) ∙ covered-fresh C in
     let hop = ne-eqb (e .hop) (fresh t e .hop) (λ q. m (ap (λ (d : Entry). d .hop) (sym same) ∙ sym q)) in
     (rw (h, same) (ap (λ (l : Cache). d ∷ l) (z .0)), rw h (z .1), rw (h, hop) (ap suc (z .2)))
+
+-- ---- entries that do not overlap the updated prefix
+
+module _ (t : Table) (u : Update) (e : Entry) (d : Distinct t) (E : Covered t e) (a : overlap (e .prefix) (u .prefix) ≡ false) where
+  off : (r : Route) → (contains (r .prefix) (e .prefix) ≡ true) ⊎ (strictlyInside (r .prefix) (e .prefix) ≡ true) → ¬ (r .prefix ≡ u .prefix)
+  off r (inl h) z = apart-⊑ (e .prefix) (u .prefix) a .1 (rw z at (contains-⊑ (r .prefix) (e .prefix) h))
+  off r (inr h) z = apart-⊑ (e .prefix) (u .prefix) a .0 (rw z at (strict-⊑ (r .prefix) (e .prefix) h .0))
+
+  back : (r : Route) → ¬ (r .prefix ≡ u .prefix) → Standing t u r → r ∈ t
+  back r n (announced h f z) = absurd (n (ap (λ (r : Route). r .prefix) z))
+  back r n (stood m k) = m
+
+  pub same-match : match (updated t u) (e .prefix) ≡ match t (e .prefix)
+  same-match = match-agree (updated t u) t (e .prefix) (e .prefix) (one-each d)
+      (λ r m h. (back r (off r (inl h)) (updated-in t u r m), h))
+      (λ r m h. (in-updated t u r m (off r (inl h)), h))
+
+  pub apart-stays : leaves (updated t u) u e ≡ false
+  apart-stays = is-false (λ h. go (leaves-leaving (updated t u) u e h))
+    where
+      go : Leaving (updated t u) u e → ⊥
+      go (route-inside r m h) = clash h (E .none-inside r (back r (off r (inr h)) (updated-in t u r m)))
+      go (uncovered h) =
+          let l = match-longest t (e .prefix) (E .is-match) in
+          clash (l .covers) (h (E .cover) (in-updated t u (E .cover) (l .is-route) (off (E .cover) (inl (l .covers)))))
+      go (withdrawn x z) = apart-⊑ (e .prefix) (u .prefix) a .0 (⊑-of-eq (sym z))
+
+  pub apart-unchanged : fresh (updated t u) e ≡ e
+  unfolding fresh hopOf
+  apart-unchanged = rw (same-match, E .is-match, ← E .its-hop)
+
+-- they are the same list as before
+pub apart-same : (t : Table) (u : Update) (c : Cache) → Distinct t → ((e : Entry) → e ∈ c → Covered t e)
+    → keep (λ e. not (overlap (e .prefix) (u .prefix))) (refreshed (updated t u) u c) ≡ keep (λ e. not (overlap (e .prefix) (u .prefix))) c
+unfolding refreshed keep
+apart-same t u [] d E = refl
+apart-same t u (e ∷ c) d E = go (overlap (e .prefix) (u .prefix)) refl (leaves (updated t u) u e) refl (apart-same t u c d (λ x m. E x (List·Memᴰ·tail m)))
+  where
+    out : Route → Bool
+    out e = not (overlap (e .prefix) (u .prefix))
+
+    rest : List Route
+    rest = keep (λ e. not (leaves (updated t u) u e)) c
+
+    same-pre : out (fresh (updated t u) e) ≡ out e
+    same-pre = rw fresh-prefix
+
+    go : (b : Bool) → overlap (e .prefix) (u .prefix) ≡ b → (l : Bool) → leaves (updated t u) u e ≡ l
+        → keep out (map (fresh (updated t u)) rest) ≡ keep out c
+        → keep out (map (fresh (updated t u)) (cond (not l) (e ∷ rest) rest)) ≡ cond (not b) (e ∷ keep out c) (keep out c)
+    go true a true h rec = rec
+    go true a false h rec = rw (same-pre, a) rec
+    go false a true h rec = absurd (clash h (apart-stays t u e d (E e (List·Memᴰ·head refl)) a))
+    go false a false h rec = rw (apart-unchanged t u e d (E e (List·Memᴰ·head refl)) a, a) (ap (λ (l : List Route). e ∷ l) rec)
+
+-- ---- entries that do
+
+-- an entry with the announced prefix itself is kept and takes the new hop
+pub announced-kept : (t : Table) (p : Bits) (h : ℕ) (e : Entry) → Distinct t → Covered t e → e .prefix ≡ p
+    → (leaves (updated t (record { prefix = p; action = announce h })) (record { prefix = p; action = announce h }) e ≡ false)
+    × (fresh (updated t (record { prefix = p; action = announce h })) e .hop ≡ h)
+unfolding fresh hopOf
+announced-kept t p h e d E z = (is-false (λ k. go (leaves-leaving (updated t u) u e k)), rw (longest-match (updated t u) (e .prefix) (one-each (updated-distinct t u d)) best) refl)
+  where
+    u : Update
+    u = record { prefix = p; action = announce h }
+
+    new : Route
+    new = record { prefix = p; hop = h }
+
+    go : Leaving (updated t u) u e → ⊥
+    go (route-inside r m k) = old r k (updated-in t u r m)
+      where
+        old : (r : Route) → strictlyInside (r .prefix) (e .prefix) ≡ true → Standing t u r → ⊥
+        old r k (announced x f y) = omega (arith, strict-⊑ (r .prefix) (e .prefix) k .1, ap length (ap (λ (r : Route). r .prefix) y ∙ sym z))
+        old r k (stood m n) = clash k (E .none-inside r m)
+    go (uncovered k) = clash (⊑-contains (⊑-of-eq (sym z))) (k new (new-in t u h refl))
+    go (withdrawn f y) = let w : _≡_ {A = ℕ} 0 1 = cc in omega arith
+
+    best : Longest (updated t u) (e .prefix) new
+    best = record { is-route = new-in t u h refl; covers = ⊑-contains (⊑-of-eq (sym z)); longest = λ r m k. omega (arith, ⊑-length (contains-⊑ (r .prefix) (e .prefix) k), ap length z) }
+
+-- an entry that an announced prefix lies strictly inside leaves, whatever its hop
+pub announced-inside-leaves : (t : Table) (u : Update) (h : ℕ) (e : Entry) → u .action ≡ announce h → strictlyInside (u .prefix) (e .prefix) ≡ true → leaves (updated t u) u e ≡ true
+announced-inside-leaves t u h e f k = leaving-leaves (updated t u) u e (route-inside (record { prefix = u .prefix; hop = h }) (new-in t u h f) k)
+
+-- an entry with the withdrawn prefix leaves, whatever still covers it
+pub withdrawn-leaves : (t : Table) (u : Update) (e : Entry) → u .action ≡ withdraw → u .prefix ≡ e .prefix → leaves (updated t u) u e ≡ true
+withdrawn-leaves t u e f k = leaving-leaves (updated t u) u e (withdrawn f k)
 
 -- ---- calls
 

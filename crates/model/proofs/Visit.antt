@@ -16,12 +16,12 @@ use Rattle.prefix.proofs.Tests.{contains-⊑, not-⊑}
 use Rattle.model.specs.Demands.{NoLonger}
 use Rattle.model.specs.Lists.{_∈_, p-cons, p-nil}
 use Rattle.model.specs.Nodes.{examined, nodes}
-use Rattle.model.specs.Routes.{Route}
+use Rattle.model.specs.Routes.{Route, Table}
 use Rattle.model.proofs.ListLaws.{Unique}
 use Rattle.model.proofs.NodeLaws.{Above, OnWay, branch-node, examined-count, in-node, node-in, of-one, shared-<}
 
 -- w is the node below v on the side of X
-pub record Child (t : List Route) (X v w : Bits) : Type 0 where
+pub record Child (t : Table) (X v w : Bits) : Type 0 where
   pub inside : v ⊑ X
   pub is-node : w ∈ nodes t
   pub below : v ⊑ w
@@ -30,7 +30,7 @@ pub record Child (t : List Route) (X v w : Bits) : Type 0 where
   pub between : (u : Bits) → Above t w u → length u ≤ length v
 
 -- the nodes visited so far, the last one first: the root, and below each that contains X the child on its side
-pub data Visited (t : List Route) (X : Bits) : List Bits → Type 0 where
+pub data Visited (t : Table) (X : Bits) : List Bits → Type 0 where
   at-root : {v : Bits} → v ∈ nodes t → ((u : Bits) → Above t v u → ⊥) → Visited t X (v ∷ [])
   at-child : {v w : Bits} {l : List Bits} → Visited t X (v ∷ l) → Child t X v w → Visited t X (w ∷ v ∷ l)
 
@@ -40,7 +40,7 @@ pub record Ahead (X v x : Bits) : Type 0 where
   pub longer : length v < length x
   pub turns : take (suc (length v)) x ⊑ X
 
-module _ (t : List Route) (X : Bits) where
+module _ (t : Table) (X : Bits) where
   -- a node with nothing as long as z above it, that shares z with another node, is above it
   above-all : (v x z : Bits) → v ∈ nodes t → x ∈ nodes t → z ⊑ v → z ⊑ x → ((u : Bits) → Above t v u → length u < length z) → v ⊑ x
   above-all v x z m n p q h = go (either (contains v x)) (either (contains x v))

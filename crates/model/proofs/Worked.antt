@@ -118,6 +118,16 @@ uncovered-entry-leaves : answers (small 2) empty
 unfolding computing
 uncovered-entry-leaves = refl
 
+-- Catches the announced hop in an entry that a longer route covers: 0/2 keeps hop 3 when 0/1 comes with 5. It takes the new hop of 0/2
+-- itself, and leaves when 0/3 comes, though with the same hop.
+longest-cover-gives-hop : answers (small 3) empty
+    (update (bits 4 0) 2 (announce 3) ∷ look (bits 4 0) ∷ update (bits 4 0) 1 (announce 5) ∷ look (bits 4 0)
+    ∷ update (bits 4 0) 2 (announce 6) ∷ look (bits 4 0) ∷ update (bits 4 0) 3 (announce 6) ∷ []) ≡
+    done 0 0 ∷ miss 3 (take 2 (bits 4 0)) 1 ∷ done 0 0 ∷ hit 3
+    ∷ done 0 1 ∷ hit 6 ∷ done 1 0 ∷ []
+unfolding computing
+longest-cover-gives-hop = refl
+
 -- Catches tallies that do not wrap.
 tallies-wrap : tallied (record { hits = 2 ^ 32 - 1; misses = 5; drops = 0; evicted = 0; removed = 0 }) (hit 1) 0 ≡
     record { hits = 0; misses = 5; drops = 0; evicted = 0; removed = 0 }

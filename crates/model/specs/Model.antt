@@ -59,19 +59,23 @@ newLength table cache X M = largest (length (M .prefix)
     ∷ map (λ R. suc (common X (R .prefix))) (keep (λ R. not (contains (R .prefix) X)) table)
     ++ map (λ E. suc (common X (E .prefix))) cache)
 
+-- "With match M, the new prefix is the first n bits of X."
+abbrev pub newPrefix : Table → Cache → Bits → Route → Bits
+newPrefix table cache X M = take (newLength table cache X M) X
+
 -- what a lookup answers, the cache that it leaves, and how many entries it evicts
 pub record Looked : Type 0 where
   pub answer : Answer
   pub cache : Cache
   pub evicted : ℕ
 
--- "A lookup without a match answers drop at once and caches nothing." "With match M, the new prefix is the first n bits of X. ..
--- It takes M's hop. It is chosen before anything is evicted. If the cache is full, the least recently used entry leaves, else none
--- does. The new entry is the most recently used." What stands past the limit then is what leaves.
+-- "A lookup without a match answers drop at once and caches nothing." The new prefix "takes M's hop. It is chosen before anything is
+-- evicted. If the cache is full, the least recently used entry leaves, else none does. The new entry is the most recently used.":
+-- with the new entry in front, what stands past the limit leaves.
 unfoldable pub lookTable : Table → Cache → ℕ → Bits → Option Route → Looked
 lookTable table cache limit X none = record { answer = drop (examined table X); cache = cache; evicted = 0 }
 lookTable table cache limit X (some M) =
-    let new : Entry = record { prefix = take (newLength table cache X M) X; hop = M .hop } in
+    let new : Entry = record { prefix = newPrefix table cache X M; hop = M .hop } in
     record { answer = miss (M .hop) (new .prefix) (examined table X); cache = take limit (new ∷ cache); evicted = suc (length cache) - limit }
 
 -- "If a cached prefix contains X: hit. The answer is its hop; it becomes the most recently used."
