@@ -71,10 +71,14 @@ unfolding after
 counted-after L s [] C = C
 counted-after L s (x ∷ l) C = counted-after L (step L s x .state) l (counted-step L s x C)
 
-pub held-sum : (n : ℕ) (k : Tallies) → n < 2 ^ 32 → Counted n k → heldSum k ≡ n
-held-sum n k h C = omega (arith, C .sum, C .misses-below, C .evicted-below, C .removed-below)
+-- entries held = misses - evicted - removed, modulo 2 ^ 32: from any counted state, and so over any run from zero
+pub held-sum : (n : ℕ) (k : Tallies) → Counted n k → heldSum k ≡ n % 2 ^ 32
+held-sum n k C = omega (arith, C .sum, C .misses-below, C .evicted-below, C .removed-below)
 
--- entries held = misses - evicted - removed, modulo 2 ^ 32
-pub held-run : (L : Limits) (l : List Call) → L .entries < 2 ^ 32 → AllFull L l → heldSum (after L empty l .tallies) ≡ length (after L empty l .cache)
+pub held-sum-of-run : (L : Limits) (l : List Call) → heldSum (after L empty l .tallies) ≡ length (after L empty l .cache) % 2 ^ 32
 unfolding empty
-held-run L l h fs = held-sum _ _ (omega (arith, legal-run L fs .entries-fit)) (counted-after L empty l (record { misses-below = omega arith; evicted-below = omega arith; removed-below = omega arith; sum = refl }))
+held-sum-of-run L l = held-sum _ _ (counted-after L empty l (record { misses-below = omega arith; evicted-below = omega arith; removed-below = omega arith; sum = refl }))
+
+-- the number itself, where the limit stands in 32 bits
+pub held-of-run : (L : Limits) (l : List Call) → L .entries < 2 ^ 32 → AllFull L l → heldSum (after L empty l .tallies) ≡ length (after L empty l .cache)
+held-of-run L l h fs = omega (arith, held-sum-of-run L l, legal-run L fs .entries-fit)

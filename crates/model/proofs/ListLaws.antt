@@ -177,12 +177,6 @@ module _ {A : Type 0} where
 
   -- ---- pairs
 
-  pub p-head : {R : A → A → Type 0} {a : A} {l : List A} → Pairwise R (a ∷ l) → (y : A) → y ∈ l → R a y
-  p-head (p-cons h t) = h
-
-  pub p-tail : {R : A → A → Type 0} {a : A} {l : List A} → Pairwise R (a ∷ l) → Pairwise R l
-  p-tail (p-cons h t) = t
-
   pub Pairwise-keep : {R : A → A → Type 0} (f : A → Bool) {l : List A} → Pairwise R l → Pairwise R (keep f l)
   unfolding keep
   Pairwise-keep f p-nil = p-nil

@@ -20,7 +20,7 @@ use Rattle.model.specs.Model.{Cache, Entry, newLength, newPrefix}
 use Rattle.model.specs.Routes.{Route, Table, match}
 use Rattle.model.proofs.ListLaws.{biggest-is, biggest-none, in-keep, in-map, keep-in, largest-in, le-largest, map-in, pair-cases}
 
--- so its routes are told apart by their prefixes
+-- routes are told apart by their prefixes
 abbrev pub OneEach : Table → Type 0
 OneEach t = (r s : Route) → r ∈ t → s ∈ t → r .prefix ≡ s .prefix → r ≡ s
 
@@ -75,20 +75,24 @@ match-agree t u X Y one to from = go (match t X) (match u Y) refl refl
         let z : M ≡ N = one M N (a .0) (l .is-route) (⊑-eq h (k .longest N (b .0) (b .1))) in
         e ∙ ap some z ∙ sym f
 
--- the longest match is the match
+-- ---- the longest match is unique, and is the match
+
+pub longest-unique : (t : Table) (X : Bits) {M N : Route} → OneEach t → Longest t X M → Longest t X N → M ≡ N
+longest-unique t X {M} {N} one k l = one M N (k .is-route) (l .is-route) (⊑-eq shorter (k .longest N (l .is-route) (l .covers)))
+  where
+    shorter : M .prefix ⊑ N .prefix
+    shorter = ⊑-by-length (contains-⊑ (M .prefix) X (k .covers)) (contains-⊑ (N .prefix) X (l .covers)) (l .longest M (k .is-route) (k .covers))
+
 pub longest-match : (t : Table) (X : Bits) {M : Route} → OneEach t → Longest t X M → match t X ≡ some M
 longest-match t X {M} one L = go (match t X) refl
   where
     go : (o : Option Route) → match t X ≡ o → match t X ≡ some M
     go none e = absurd (clash (L .covers) (match-none t X e M (L .is-route)))
-    go (some N) e =
-        let k = match-longest t X e in
-        let h = ⊑-by-length (contains-⊑ (N .prefix) X (k .covers)) (contains-⊑ (M .prefix) X (L .covers)) (L .longest N (k .is-route) (k .covers)) in
-        e ∙ ap some (one N M (k .is-route) (L .is-route) (⊑-eq h (k .longest M (L .is-route) (L .covers))))
+    go (some N) e = e ∙ ap some (longest-unique t X one (match-longest t X e) L)
 
 -- ---- the prefix that a miss stores
 
--- what the three parts of n's maximum are
+-- n is one of the three parts of its maximum
 pub data Part (t : Table) (c : Cache) (X : Bits) (M : Route) (n : ℕ) : Type 0 where
   of-match : n ≡ length (M .prefix) → Part t c X M n
   of-route : (r : Route) → r ∈ t → contains (r .prefix) X ≡ false → n ≡ suc (common X (r .prefix)) → Part t c X M n

@@ -17,8 +17,9 @@ use Rattle.prefix.proofs.Booleans.{and-true, beq-eq, beq-refl, clash, either, n
 use Rattle.prefix.proofs.Common.{shared-great, shared-left, shared-right}
 use Rattle.prefix.proofs.Order.{take-len, take-⊑, ⊑-antisym, ⊑-by-length, ⊑-eq, ⊑-length, ⊑-of-eq, ⊑-total, ⊑-trans}
 use Rattle.prefix.proofs.Tests.{contains-⊑, eq-same, not-⊑, same-eq, strict-⊑, ⊑-apart, ⊑-strict}
-use Rattle.model.specs.Demands.{NoLonger, left}
+use Rattle.model.specs.Demands.{Legal, NoLonger, left}
 use Rattle.model.specs.Lists.{_∈_, any, keep, p-cons, p-nil}
+use Rattle.model.specs.Model.{Cache, Limits}
 use Rattle.model.specs.Nodes.{branches, examined, isExamined, isRoot, nodes, parent, towards, withoutRepeats}
 use Rattle.model.specs.Routes.{Route, Table}
 use Rattle.model.proofs.ListLaws.{Pairwise-keep, Unique, any-false, any-in, biggest-is, biggest-none, flat-in, in-flat, in-keep, in-map, keep-in, map-in, none-any, same-length, subset-length}
@@ -180,6 +181,10 @@ node-one t v w z m n p q av aw = go (either (contains v w)) (either (contains w 
         let f = branch-node (node-in t v m) (node-in t w n) (not-⊑ v w h) (not-⊑ w v k) in
         absurd (omega (arith, aw (shared v w) (in-node t (shared v w) f, shared-right v w, shared-< (not-⊑ w v k)), ⊑-length (shared-great p q)))
 
+-- there is one root
+pub one-root : (t : Table) (v w : Bits) → v ∈ nodes t → w ∈ nodes t → isRoot (nodes t) v ≡ true → isRoot (nodes t) w ≡ true → v ≡ w
+one-root t v w m n e f = node-one t v w [] m n ⊑nil ⊑nil (λ u a. absurd (root-above t v e u a)) (λ u a. absurd (root-above t w f u a))
+
 -- what has no parent is the root
 pub none-root : (t : Table) (v : Bits) → v ∈ nodes t → parent (nodes t) v ≡ none → isRoot (nodes t) v ≡ true
 unfolding isRoot
@@ -295,9 +300,9 @@ ranked t X v w = go (parent (nodes t) v) refl
     go none f = record { on-way = ⊑nil; within = omega arith; past = λ u a. absurd (parent-none t v f u a) }
     go (some p) f = let b = parent-above t v p f in record { on-way = w p (b .0); within = b .0 .2; past = λ u a. omega (arith, b .1 u a) }
 
-pub examined-≤ : (t : Table) (X : Bits) → NoLonger (length X) t → examined t X ≤ suc (length X)
+pub examined-at-most : (t : Table) (X : Bits) → NoLonger (length X) t → examined t X ≤ suc (length X)
 unfolding examined
-examined-≤ t X s =
+examined-at-most t X s =
     let h = subset-length (unique-map (rank t) (Pairwise-keep f (nodes-unique t)) one) (upto (suc (length X)))
     (λ k m. let r = map-in (rank t) (keep f (nodes t)) m in in-upto (suc (length X)) k (rw (r .2) (small (r .0) (r .1)))) in
     omega (arith, rw (length-map, upto-length) at h)
@@ -325,3 +330,7 @@ examined-≤ t X s =
 pub examined-none : (X : Bits) → examined [] X ≡ 0
 unfolding examined nodes branches withoutRepeats flatMap keep
 examined-none X = refl
+
+-- "no table gives more than 33"
+pub examined-at-most-33 : {limits : Limits} {t : Table} {c : Cache} → limits .width ≡ 32 → Legal limits t c → (X : Bits) → length X ≡ 32 → examined t X ≤ 33
+examined-at-most-33 {limits} {t} w S X e = omega (arith, examined-at-most t X (λ r m. rw (e ∙ sym w) (S .routes-short r m)))

@@ -16,7 +16,7 @@ use Rattle.model.specs.Lists.{_∈_, first, keep, p-cons, p-nil}
 use Rattle.model.specs.Model.{Cache, Entry, Limits, Looked, changed, fresh, leaves, lookCache, lookTable, lookup, newLength, refreshed, refusal, removed}
 use Rattle.model.specs.Nodes.{examined, isExamined, isRoot, nodes, parent}
 use Rattle.model.specs.Routes.{Action, Route, Table, Update, announce, held, match, updated, withdraw}
-use Rattle.model.specs.Runs.{Call, Outcome, State, accepted, answers, judged, look, looked, step, update}
+use Rattle.model.specs.Runs.{Call, Outcome, State, accepted, after, answers, judged, look, looked, step, update}
 use Rattle.model.proofs.Legal.{legal-step}
 use Rattle.model.proofs.ListLaws.{Pairwise-keep, Unique, any-same, biggest-same, in-keep, keep-in, same-length}
 use Rattle.model.proofs.Match.{Part, match-agree, new-entry, new-match, new-part, new-route, of-entry, of-match, of-route, one-each}
@@ -166,3 +166,9 @@ answers-same L s z no-calls S Z A = refl
 answers-same L s z (and-calls {x = x} {l = l} g gs) S Z A =
     let o = step-same L s z x S Z A in
     ap₂ _∷_ (o .same-answer) (answers-same L (step L s x .state) (step L z x .state) gs (legal-step L s x g S) (legal-step L z x g Z) (o .still-alike))
+
+pub after-alike : (L : Limits) (s z : State) {l : List Call} → AllFull L l → LegalState L s → LegalState L z → Alike s z → Alike (after L s l) (after L z l)
+unfolding after
+after-alike L s z no-calls S Z A = A
+after-alike L s z (and-calls {x = x} g gs) S Z A =
+    after-alike L (step L s x .state) (step L z x .state) gs (legal-step L s x g S) (legal-step L z x g Z) (step-same L s z x S Z A .still-alike)
