@@ -11,7 +11,7 @@ use Rattle.prefix.specs.Bits.{Bits}
 use Rattle.prefix.specs.Prefix.{contains, same, strictlyInside}
 use Rattle.prefix.proofs.Order.{⊑-by-length, ⊑-eq}
 use Rattle.prefix.proofs.Tests.{strict-⊑}
-use Rattle.model.specs.Demands.{Alike, AllFull, Distinct, LegalState, SameRoutes, Standing, Subset, and-calls, announced, no-calls, stood}
+use Rattle.model.specs.Demands.{Alike, AlikeOutcome, AllFull, Distinct, LegalState, SameRoutes, Standing, Subset, UpdateOutcome, and-calls, announced, no-calls, stood}
 use Rattle.model.specs.Lists.{_∈_, first, keep, p-cons, p-nil}
 use Rattle.model.specs.Model.{Cache, Entry, Limits, Looked, changed, fresh, leaves, lookCache, lookTable, lookup, newLength, refreshed, refusal, removed}
 use Rattle.model.specs.Nodes.{examined, isExamined, isRoot, nodes, parent}
@@ -19,15 +19,15 @@ use Rattle.model.specs.Routes.{Action, Route, Table, Update, announce, h
 use Rattle.model.specs.Runs.{Call, Outcome, State, accepted, after, answers, judged, look, looked, step, update}
 use Rattle.model.proofs.Legal.{legal-step}
 use Rattle.model.proofs.ListLaws.{Pairwise-keep, Unique, any-same, biggest-same, in-keep, keep-in, same-length}
-use Rattle.model.proofs.Match.{Part, match-agree, new-entry, new-match, new-part, new-route, of-entry, of-match, of-route, one-each}
+use Rattle.model.proofs.Match.{OneEach, Part, match-agree, new-entry, new-match, new-part, new-route, of-entry, of-match, of-route, one-each}
 use Rattle.model.proofs.NodeLaws.{Node, in-node, node-in, nodes-unique, of-one, of-two}
-use Rattle.model.proofs.Updates.{in-updated, new-in, updated-distinct, updated-in}
+use Rattle.model.proofs.Updates.{in-updated, new-in, only-refreshed, updated-distinct, updated-in}
 
 pub flip : {t u : Table} → SameRoutes t u → SameRoutes u t
 flip s = record { to = s .from; from = s .to }
 
-pub match-same : (t u : Table) (X : Bits) → Distinct u → SameRoutes t u → match t X ≡ match u X
-match-same t u X d s = match-agree t u X X (one-each d) (λ r m h. (s .to r m, h)) (λ r m h. (s .from r m, h))
+pub match-same : (t u : Table) (X : Bits) → OneEach u → SameRoutes t u → match t X ≡ match u X
+match-same t u X one s = match-agree t u X X one (λ r m h. (s .to r m, h)) (λ r m h. (s .from r m, h))
 
 new-le : (t u : Table) (c : Cache) (X : Bits) (M : Route) → Subset t u → newLength t c X M ≤ newLength u c X M
 new-le t u c X M s = go (newLength t c X M) (new-part t c X M)
@@ -91,7 +91,7 @@ lookup-same t u c limit X d s = onCache (first (λ (e : Entry). contains (e .pre
     onTable (some M) = rw (examined-same t u X s, new-same t u c X M s)
 
     onCache : (o : Option Route) → lookCache t c limit X o ≡ lookCache u c limit X o
-    onCache none = rw (match-same t u X d s) (onTable (match u X))
+    onCache none = rw (match-same t u X (one-each d) s) (onTable (match u X))
     onCache (some e) = refl
 
 updated-sub : (t u : Table) (w : Update) → Subset t u → Subset (updated t w) (updated u w)
@@ -108,9 +108,21 @@ pub leaves-same : (t u : Table) (w : Update) → SameRoutes t u → leaves t w �
 unfolding leaves
 leaves-same t u w s = fun-ext (λ e. rw (any-same (λ (r : Route). strictlyInside (r .prefix) (e .prefix)) t u (s .to) (s .from), any-same (λ (r : Route). contains (r .prefix) (e .prefix)) t u (s .to) (s .from)))
 
-pub fresh-same : (t u : Table) → Distinct u → SameRoutes t u → fresh t ≡ fresh u
+pub fresh-same : (t u : Table) → OneEach u → SameRoutes t u → fresh t ≡ fresh u
 unfolding fresh
-fresh-same t u d s = fun-ext (λ e. rw (match-same t u (e .prefix) d s))
+fresh-same t u one s = fun-ext (λ e. rw (match-same t u (e .prefix) one s))
+
+pub refreshed-same : (t u : Table) (w : Update) (c : Cache) → OneEach u → SameRoutes t u → refreshed t w c ≡ refreshed u w c
+unfolding refreshed
+refreshed-same t u w c one s = rw (leaves-same t u w s, fresh-same t u one s)
+
+pub removed-same : (t u : Table) (w : Update) (c : Cache) → SameRoutes t u → removed t w c ≡ removed u w c
+unfolding removed
+removed-same t u w c s = rw (leaves-same t u w s)
+
+pub changed-same : (t u : Table) (w : Update) (c : Cache) → OneEach u → SameRoutes t u → changed t w c ≡ changed u w c
+unfolding changed
+changed-same t u w c one s = rw (leaves-same t u w s, fresh-same t u one s)
 
 pub length-same : (t u : Table) → Distinct t → Distinct u → SameRoutes t u → length t ≡ length u
 length-same t u d e s = same-length (once d) (once e) (s .to) (s .from)
@@ -124,12 +136,8 @@ unfolding refusal held
 refusal-same L t u n p (announce h) d e s = rw (any-same (λ (r : Route). same (r .prefix) p) t u (s .to) (s .from), length-same t u d e s)
 refusal-same L t u n p withdraw d e s = rw (any-same (λ (r : Route). same (r .prefix) p) t u (s .to) (s .from))
 
-pub record AlikeOut (s z : Outcome) : Type 0 where
-  pub same-answer : s .answer ≡ z .answer
-  pub still-alike : Alike (s .state) (z .state)
-
-pub step-same : (L : Limits) (s z : State) (x : Call) → LegalState L s → LegalState L z → Alike s z → AlikeOut (step L s x) (step L z x)
-unfolding step looked judged accepted refreshed removed changed
+pub step-same : (L : Limits) (s z : State) (x : Call) → LegalState L s → LegalState L z → Alike s z → AlikeOutcome (step L s x) (step L z x)
+unfolding step looked judged accepted
 step-same L s z (look X) S Z A =
     let e : lookup (s .table) (s .cache) (L .entries) X ≡ lookup (z .table) (z .cache) (L .entries) X = rw (A .caches) (lookup-same (s .table) (z .table) (z .cache) (L .entries) X (Z .distinct) (A .tables)) in
     record { same-answer = ap (λ (r : Looked). r .answer) e; still-alike = record { tables = A .tables; caches = ap (λ (r : Looked). r .cache) e; tallies = rw (e, A .tallies) } }
@@ -141,22 +149,19 @@ step-same L s z (update a n act) S Z A = rw (refusal-same L (s .table) (z .table
     T : SameRoutes (updated (s .table) u) (updated (z .table) u)
     T = updated-same (s .table) (z .table) u (A .tables)
 
-    l : leaves (updated (s .table) u) u ≡ leaves (updated (z .table) u) u
-    l = leaves-same (updated (s .table) u) (updated (z .table) u) u T
-
-    f : fresh (updated (s .table) u) ≡ fresh (updated (z .table) u)
-    f = fresh-same (updated (s .table) u) (updated (z .table) u) (updated-distinct (z .table) u (Z .distinct)) T
+    one : OneEach (updated (z .table) u)
+    one = one-each (updated-distinct (z .table) u (Z .distinct))
 
     ca : refreshed (updated (s .table) u) u (s .cache) ≡ refreshed (updated (z .table) u) u (z .cache)
-    ca = rw (l, f, A .caches)
+    ca = rw (A .caches) (refreshed-same (updated (s .table) u) (updated (z .table) u) u (z .cache) one T)
 
     re : removed (updated (s .table) u) u (s .cache) ≡ removed (updated (z .table) u) u (z .cache)
-    re = rw (l, A .caches)
+    re = rw (A .caches) (removed-same (updated (s .table) u) (updated (z .table) u) u (z .cache) T)
 
     ch : changed (updated (s .table) u) u (s .cache) ≡ changed (updated (z .table) u) u (z .cache)
-    ch = rw (l, f, A .caches)
+    ch = rw (A .caches) (changed-same (updated (s .table) u) (updated (z .table) u) u (z .cache) one T)
 
-    go : (k : ℕ) → AlikeOut (judged s u k) (judged z u k)
+    go : (k : ℕ) → AlikeOutcome (judged s u k) (judged z u k)
     go zero = record { same-answer = rw (re, ch); still-alike = record { tables = T; caches = ca; tallies = rw (re, A .tallies) } }
     go (suc k) = record { same-answer = refl; still-alike = A }
 
@@ -172,3 +177,41 @@ unfolding after
 after-alike L s z no-calls S Z A = A
 after-alike L s z (and-calls {x = x} g gs) S Z A =
     after-alike L (step L s x .state) (step L z x .state) gs (legal-step L s x g S) (legal-step L z x g Z) (step-same L s z x S Z A .still-alike)
+
+-- ---- what demand 3 says leaves no two outcomes open, but for that order
+
+standing-one-each : (t : Table) (u : Update) (table : Table) → Distinct t → ((r : Route) → r ∈ table → Standing t u r) → OneEach table
+standing-one-each t u table d stand r s m n e = go (stand r m) (stand s n)
+  where
+    go : Standing t u r → Standing t u s → r ≡ s
+    go (announced h f z) (announced k g w) = let i : announce h ≡ announce k = sym f ∙ g in let j : h ≡ k = cc in z ∙ rw j (sym w)
+    go (announced h f z) (stood i k) = absurd (k (sym e ∙ ap (λ (r : Route). r .prefix) z))
+    go (stood i k) (announced h f z) = absurd (k (e ∙ ap (λ (r : Route). r .prefix) z))
+    go (stood i k) (stood j l) = one-each d r s i j e
+
+pub update-outcomes-alike : (s : State) (u : Update) {a b : Outcome} → Distinct (s .table) → UpdateOutcome s u a → UpdateOutcome s u b → AlikeOutcome a b
+update-outcomes-alike s u {a} {b} d A B = record {
+  same-answer = A .counts ∙ rw (re, ch) (sym (B .counts));
+  still-alike = record { tables = T; caches = ca; tallies = A .tallies ∙ rw re (sym (B .tallies)) };
+}
+  where
+    t : Table
+    t = a .state .table
+
+    z : Table
+    z = b .state .table
+
+    T : SameRoutes t z
+    T = record { to = λ r m. B .routes r .1 (A .routes r .0 m); from = λ r m. A .routes r .1 (B .routes r .0 m) }
+
+    one : OneEach z
+    one = standing-one-each (s .table) u z d (λ r m. B .routes r .0 m)
+
+    ca : a .state .cache ≡ b .state .cache
+    ca = only-refreshed (A .entries) .0 ∙ refreshed-same t z u (s .cache) one T ∙ sym (only-refreshed (B .entries) .0)
+
+    re : A .removed ≡ B .removed
+    re = only-refreshed (A .entries) .1 ∙ removed-same t z u (s .cache) T ∙ sym (only-refreshed (B .entries) .1)
+
+    ch : A .changed ≡ B .changed
+    ch = only-refreshed (A .entries) .2 ∙ changed-same t z u (s .cache) one T ∙ sym (only-refreshed (B .entries) .2)

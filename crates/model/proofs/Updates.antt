@@ -30,7 +30,7 @@ in-updated t u r m n = go (u .action)
     k : r ∈ keep (λ (r : Route). not (same (r .prefix) (u .prefix))) t
     k = in-keep (λ (r : Route). not (same (r .prefix) (u .prefix))) m (rw (ne-same n) refl)
 
-    go : (a : Action) → r ∈ withAnnounced u a (keep (λ (r : Route). not (same (r .prefix) (u .prefix))) t)
+    go : (a : Action) → r ∈ withAnnounced (u .prefix) a (keep (λ (r : Route). not (same (r .prefix) (u .prefix))) t)
     go (announce h) = List·Memᴰ·tail k
     go withdraw = k
 
@@ -45,7 +45,7 @@ updated-in t u r m = go (u .action) refl m
     sub h e (inl z) = announced h e z
     sub h e (inr m) = old m
 
-    go : (a : Action) → u .action ≡ a → r ∈ withAnnounced u a (keep (λ (r : Route). not (same (r .prefix) (u .prefix))) t) → Standing t u r
+    go : (a : Action) → u .action ≡ a → r ∈ withAnnounced (u .prefix) a (keep (λ (r : Route). not (same (r .prefix) (u .prefix))) t) → Standing t u r
     go (announce h) e m = sub h e (List·Memᴰ·cases-cons m)
     go withdraw e m = old m
 
@@ -59,7 +59,7 @@ updated-distinct t u d = go (u .action)
     rest : Distinct (keep f t)
     rest = Pairwise-keep f d
 
-    go : (a : Action) → Distinct (withAnnounced u a (keep f t))
+    go : (a : Action) → Distinct (withAnnounced (u .prefix) a (keep f t))
     go (announce h) = p-cons (λ y m k. clash (eq-same (sym k)) (not-false _ (keep-in f t m .1))) rest
     go withdraw = rest
 
@@ -277,6 +277,7 @@ update-outcome L s a n act S e = rw e (record {
   changed = changed (updated (s .table) u) u (s .cache);
   entries = refreshed-is (updated (s .table) u) u (s .cache);
   counts = refl;
+  tallies = refl;
   others = apart-same (s .table) u (s .cache) (S .distinct) (S .covered);
 })
   where

@@ -1,21 +1,22 @@
 -- What the theorems of proofs/ claim. The demands and the sentences of the scope are said here once more, as facts that do not
 -- mention how Model finds its answers: `newLength`, `take limit`, `omit`, `leaves` and `fresh` do not occur. Assumes nothing.
-use Prim.Native.Nat.{ℕ, zero, suc, _≤_, _<_}
+use Prim.Native.Nat.{ℕ, suc, _≤_, _<_}
 use mathlib.Core.Path.{_≡_}
-use mathlib.Core.Bool.{Bool, true, false, not}
+use mathlib.Core.Bool.{true, false, not}
 use mathlib.Core.List.{List, [], _∷_, _++_}
 use mathlib.Core.Logic.{_↔_}
-use mathlib.Core.Option.{Option, none, some}
+use mathlib.Core.Option.{some}
 use lib.ListN.{length}
 use Rattle.prefix.specs.Bits.{Bits}
 use Rattle.prefix.specs.Prefix.{contains, strictlyInside, overlap}
+use Rattle.tallies.specs.Counting.{afterUpdate}
 use Rattle.model.specs.Lists.{keep, _∈_, Pairwise}
-use Rattle.model.specs.Routes.{Route, Table, match, Action, announce, withdraw, Update}
+use Rattle.model.specs.Routes.{Route, Table, match, announce, withdraw, Update}
 use Rattle.model.specs.Nodes.{examined}
-use Rattle.model.specs.Model.{Entry, Cache, Answer, hit, miss, drop, done, refused, Looked, Limits, highestHop}
+use Rattle.model.specs.Model.{Entry, Cache, hit, miss, drop, done, Looked, Limits, highestHop}
 use Rattle.model.specs.Runs.{Call, look, update, State, Outcome}
 
--- ---- what runs reach
+-- ---- what every run keeps
 
 -- "A table holds a prefix at most once."
 abbrev pub Distinct : Table → Type 0
@@ -82,16 +83,16 @@ pub record Shortest (table : Table) (cache : Cache) (X : Bits) (M : Route) (p : 
   pub storable : Storable table cache X M p
   pub shortest : (q : Bits) → Storable table cache X M q → length p ≤ length q
 
--- "If the cache is full, the least recently used entry leaves, else none does": the entries that are kept, and how many leave.
+-- "If the cache is full, the least recently used entry leaves, else none does": the entries kept, and how many leave
 pub data GivesWay (limit : ℕ) (cache : Cache) : Cache → ℕ → Type 0 where
   has-room : length cache < limit → GivesWay limit cache cache 0
   is-full : {kept : Cache} → length cache ≡ limit → (oldest : Entry) → cache ≡ kept ++ (oldest ∷ []) → GivesWay limit cache kept 1
 
--- "a hit exactly when a cached prefix contains the address": these two exclude each other.
+-- "a hit exactly when a cached prefix contains the address": the next two exclude each other
 abbrev pub NoneCached : Cache → Bits → Type 0
 NoneCached cache X = (E : Entry) → E ∈ cache → contains (E .prefix) X ≡ false
 
--- the entry and those used after it and before it
+-- E, and the entries used after it and before it
 pub record Cached (cache : Cache) (X : Bits) (E : Entry) : Type 0 where
   pub newer : Cache
   pub older : Cache
@@ -99,23 +100,23 @@ pub record Cached (cache : Cache) (X : Bits) (E : Entry) : Type 0 where
   pub contains-address : contains (E .prefix) X ≡ true
 
 -- what a lookup does: "the entries not named here keep their fields and their order among themselves"
-pub data LookupOutcome (table : Table) (cache : Cache) (limit : ℕ) (X : Bits) (looked : Looked) : Type 0 where
+pub data LookupOutcome (table : Table) (cache : Cache) (limit : ℕ) (X : Bits) (result : Looked) : Type 0 where
   is-hit : (E : Entry) (M : Route) (C : Cached cache X E)
       → Longest table X M
       → E .hop ≡ M .hop
-      → looked ≡ record { answer = hit (E .hop); cache = E ∷ (C .newer ++ C .older); evicted = 0 }
-      → LookupOutcome table cache limit X looked
+      → result ≡ record { answer = hit (E .hop); cache = E ∷ (C .newer ++ C .older); evicted = 0 }
+      → LookupOutcome table cache limit X result
   is-miss : (M : Route) (p : Bits) {kept : Cache} {evicted : ℕ}
       → NoneCached cache X
       → Longest table X M
       → Shortest table cache X M p
       → GivesWay limit cache kept evicted
-      → looked ≡ record { answer = miss (M .hop) p (examined table X); cache = record { prefix = p; hop = M .hop } ∷ kept; evicted = evicted }
-      → LookupOutcome table cache limit X looked
+      → result ≡ record { answer = miss (M .hop) p (examined table X); cache = record { prefix = p; hop = M .hop } ∷ kept; evicted = evicted }
+      → LookupOutcome table cache limit X result
   is-drop : NoneCached cache X
       → ((R : Route) → R ∈ table → contains (R .prefix) X ≡ false)
-      → looked ≡ record { answer = drop (examined table X); cache = cache; evicted = 0 }
-      → LookupOutcome table cache limit X looked
+      → result ≡ record { answer = drop (examined table X); cache = cache; evicted = 0 }
+      → LookupOutcome table cache limit X result
 
 -- ---- demand 3
 
@@ -130,24 +131,29 @@ pub data Leaving (table : Table) (u : Update) (E : Entry) : Type 0 where
   uncovered : ((R : Route) → R ∈ table → contains (R .prefix) (E .prefix) ≡ false) → Leaving table u E
   withdrawn : u .action ≡ withdraw → u .prefix ≡ E .prefix → Leaving table u E
 
--- the old cache and the new one entry by entry, so in the same order of use, with the number that left and the number whose hop differs
+-- "the old one in the same order of use, less exactly" those: the two caches entry by entry, with "entries removed, and entries kept
+-- whose hop differs from before"
 pub data Refreshed (table : Table) (u : Update) : Cache → Cache → ℕ → ℕ → Type 0 where
   at-end : Refreshed table u [] [] 0 0
   left : {E : Entry} {old new : Cache} {removed changed : ℕ} → Leaving table u E
       → Refreshed table u old new removed changed → Refreshed table u (E ∷ old) new (suc removed) changed
   same-hop : {E : Entry} {old new : Cache} {removed changed : ℕ} → ¬ Leaving table u E → Covered table E
       → Refreshed table u old new removed changed → Refreshed table u (E ∷ old) (E ∷ new) removed changed
-  new-hop : {E D : Entry} {old new : Cache} {removed changed : ℕ} → ¬ Leaving table u E → Covered table D → D .prefix ≡ E .prefix → ¬ (D .hop ≡ E .hop)
+  new-hop : {E D : Entry} {old new : Cache} {removed changed : ℕ} → ¬ Leaving table u E → Covered table D
+      → D .prefix ≡ E .prefix → ¬ (D .hop ≡ E .hop)
       → Refreshed table u old new removed changed → Refreshed table u (E ∷ old) (D ∷ new) removed (suc changed)
 
+-- what an update that is not refused does
 pub record UpdateOutcome (s : State) (u : Update) (out : Outcome) : Type 0 where
   pub routes : (R : Route) → (R ∈ out .state .table) ↔ Standing (s .table) u R
   pub removed : ℕ
   pub changed : ℕ
   pub entries : Refreshed (out .state .table) u (s .cache) (out .state .cache) removed changed
   pub counts : out .answer ≡ done removed changed
+  pub tallies : out .state .tallies ≡ afterUpdate (s .tallies) removed
   -- "entries that don't overlap the updated prefix keep every field"
-  pub others : keep (λ E. not (overlap (E .prefix) (u .prefix))) (out .state .cache) ≡ keep (λ E. not (overlap (E .prefix) (u .prefix))) (s .cache)
+  pub others : keep (λ E. not (overlap (E .prefix) (u .prefix))) (out .state .cache)
+      ≡ keep (λ E. not (overlap (E .prefix) (u .prefix))) (s .cache)
 
 -- ---- the order in which a table lists its routes
 
@@ -163,3 +169,7 @@ pub record Alike (s z : State) : Type 0 where
   pub tables : SameRoutes (s .table) (z .table)
   pub caches : s .cache ≡ z .cache
   pub tallies : s .tallies ≡ z .tallies
+
+pub record AlikeOutcome (a b : Outcome) : Type 0 where
+  pub same-answer : a .answer ≡ b .answer
+  pub still-alike : Alike (a .state) (b .state)

@@ -34,8 +34,8 @@ pub data Answer : Type 0 where
   -- the number of the refusal
   refused : ℕ → Answer
 
--- "A hit and a drop give the stored prefix as address 0, length 0; a drop's hop is 0."
--- "Every refusal returns its number with all other parts of the answer 0." The prefix of length 0 is [].
+-- an answer's parts: a hit has "Nodes examined: 0", "A hit and a drop give the stored prefix as address 0, length 0; a drop's hop is
+-- 0", and "Every refusal returns its number with all other parts of the answer 0." The prefix of length 0 is [].
 pub record Values : Type 0 where
   pub number : ℕ
   pub hop : ℕ
@@ -93,7 +93,7 @@ unfoldable pub withdraws : Action → Bool
 withdraws (announce hop) = false
 withdraws withdraw = true
 
--- "less exactly the entries that now hold a route strictly inside, have no covering route, or had their own prefix just withdrawn"
+-- "exactly the entries that now hold a route strictly inside, have no covering route, or had their own prefix just withdrawn"
 unfoldable pub leaves : Table → Update → Entry → Bool
 leaves table u E =
     any (λ R. strictlyInside (R .prefix) (E .prefix)) table
@@ -135,8 +135,8 @@ abbrev pub tooLong : ℕ
 tooLong = 1
 
 -- "a hop is 0 or above 65,535"
-abbrev pub noHop : ℕ
-noHop = 2
+abbrev pub badHop : ℕ
+badHop = 2
 
 -- "a new prefix, and the table holds its limit of routes"
 abbrev pub tableFull : ℕ
@@ -146,10 +146,10 @@ tableFull = 3
 abbrev pub notHeld : ℕ
 notHeld = 4
 
--- the number that an update of the prefix p, given with this length, is answered with, 0 if it is done: "Announce: 1, 2, 3. Withdraw: 1, 4."
+-- the number of the refusal of an update of the prefix p, given with this length, or 0: "Announce: 1, 2, 3. Withdraw: 1, 4."
 unfoldable pub refusal : Limits → Table → ℕ → Bits → Action → ℕ
 refusal limits table len p (announce hop) =
     cond (ltb (limits .width) len) tooLong
-    (cond (eqb hop 0 || ltb highestHop hop) noHop
+    (cond (eqb hop 0 || ltb highestHop hop) badHop
     (cond (not (held table p) && leb (limits .routes) (length table)) tableFull 0))
 refusal limits table len p withdraw = cond (ltb (limits .width) len) tooLong (cond (held table p) 0 notHeld)

@@ -33,13 +33,14 @@ pub record Update : Type 0 where
   pub prefix : Bits
   pub action : Action
 
+-- whether the table holds the prefix
 unfoldable pub held : Table → Bits → Bool
 held table p = any (λ R. same (R .prefix) p) table
 
-unfoldable pub withAnnounced : Update → Action → Table → Table
-withAnnounced u (announce hop) table = record { prefix = u .prefix; hop = hop } ∷ table
-withAnnounced u withdraw table = table
+unfoldable pub withAnnounced : Bits → Action → Table → Table
+withAnnounced p (announce hop) table = record { prefix = p; hop = hop } ∷ table
+withAnnounced p withdraw table = table
 
 -- the table after the update: "A table holds a prefix at most once. Announcing a held prefix replaces its hop"
 unfoldable pub updated : Table → Update → Table
-updated table u = withAnnounced u (u .action) (keep (λ R. not (same (R .prefix) (u .prefix))) table)
+updated table u = withAnnounced (u .prefix) (u .action) (keep (λ R. not (same (R .prefix) (u .prefix))) table)

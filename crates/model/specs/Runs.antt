@@ -33,13 +33,19 @@ tallied k (refused number) evicted = k
 
 -- "A lookup changes no route"
 unfoldable pub looked : State → Looked → Outcome
-looked s l = record { answer = l .answer; state = record { table = s .table; cache = l .cache; tallies = tallied (s .tallies) (l .answer) (l .evicted) } }
+looked s l = record {
+  answer = l .answer;
+  state = record { table = s .table; cache = l .cache; tallies = tallied (s .tallies) (l .answer) (l .evicted) };
+}
 
 -- "An update changes the table, then the cache"
 unfoldable pub accepted : State → Update → Table → Outcome
 accepted s u table =
     let answer : Answer = done (removed table u (s .cache)) (changed table u (s .cache)) in
-    record { answer = answer; state = record { table = table; cache = refreshed table u (s .cache); tallies = tallied (s .tallies) answer 0 } }
+    record {
+      answer = answer;
+      state = record { table = table; cache = refreshed table u (s .cache); tallies = tallied (s .tallies) answer 0 };
+    }
 
 -- by the number of the refusal: "A refusal is a number from the table and changes nothing."
 unfoldable pub judged : State → Update → ℕ → Outcome
@@ -48,7 +54,9 @@ judged s u (suc k) = record { answer = refused (suc k); state = s }
 
 unfoldable pub step : Limits → State → Call → Outcome
 step limits s (look X) = looked s (lookup (s .table) (s .cache) (limits .entries) X)
-step limits s (update a len action) = judged s (record { prefix = take len a; action = action }) (refusal limits (s .table) len (take len a) action)
+step limits s (update a len action) =
+    let u : Update = record { prefix = take len a; action = action } in
+    judged s u (refusal limits (s .table) len (u .prefix) action)
 
 -- the answers of a run, and the state after it
 unfoldable pub answers : Limits → State → List Call → List Answer
