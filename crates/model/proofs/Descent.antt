@@ -8,7 +8,7 @@ use native.Mathlib.Decide.{decLe}
 use native.Mathlib.Omega.{arith}
 use lib.ListN.{length}
 use Rattle.prefix.specs.Bits.{Bits}
-use Rattle.prefix.specs.Prefix.{_⊑_, common, contains, same, shared, strictlyInside}
+use Rattle.prefix.specs.Prefix.{_⊑_, common, contains, shared, strictlyInside}
 use Rattle.prefix.proofs.Booleans.{clash}
 use Rattle.prefix.proofs.Common.{common-⊑, le-common, shared-great, shared-left, shared-length, shared-right}
 use Rattle.prefix.proofs.Order.{⊑-by-length, ⊑-eq, ⊑-length, ⊑-of-eq, ⊑-total, ⊑-trans}
@@ -34,8 +34,8 @@ new-split t c X M =
     let b = largest-append (map (λ (r : Route). suc (common X (r .prefix))) (keep (λ (r : Route). not (contains (r .prefix) X)) t)) [] in
     omega (arith, a, b)
 
--- a node w that does not contain X goes on as X does past every node that contains X: no other route that does not contain X has more in common with X.
--- (Standing a table, and of a cache: the longest Common of its entries.)
+-- w is a node that does not contain X and goes on as X does past every node that does: of the routes that do not contain X, none has
+-- more in common with X than w, and one has as much. (For a cache too: its entries are such a list of routes.)
 module _ (t : Table) (X w : Bits) (m : w ∈ nodes t) (n : ¬ (w ⊑ X)) (deep : (u : Bits) → u ∈ nodes t → u ⊑ X → length u < common X w) where
   pub next-reached : (r : Route) × (r ∈ t) × (contains (r .prefix) X ≡ false) × (common X w ≤ common X (r .prefix))
   next-reached =

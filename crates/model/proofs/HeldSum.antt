@@ -17,6 +17,7 @@ use Rattle.model.specs.Runs.{Call, State, accepted, after, empty, judged
 use Rattle.model.proofs.Legal.{legal-run}
 use Rattle.model.proofs.ListLaws.{keep-both, omit-length}
 
+-- the tallies k account for n entries held
 pub record Counted (n : ℕ) (k : Tallies) : Type 0 where
   pub misses-below : k .misses < 2 ^ 32
   pub evicted-below : k .evicted < 2 ^ 32

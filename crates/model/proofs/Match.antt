@@ -20,6 +20,8 @@ use Rattle.model.specs.Model.{Cache, Entry, newLength, newPrefix}
 use Rattle.model.specs.Routes.{Route, Table, match}
 use Rattle.model.proofs.ListLaws.{biggest-is, biggest-none, in-keep, in-map, keep-in, largest-in, le-largest, map-in, pair-cases}
 
+-- ---- the match is the longest match, and there is only one
+
 -- routes are told apart by their prefixes
 abbrev pub OneEach : Table → Type 0
 OneEach t = (r s : Route) → r ∈ t → s ∈ t → r .prefix ≡ s .prefix → r ≡ s
@@ -74,8 +76,6 @@ match-agree t u X Y one to from = go (match t X) (match u Y) refl refl
         let h = ⊑-by-length (contains-⊑ (M .prefix) Y (a .1)) (contains-⊑ (N .prefix) Y (l .covers)) (l .longest M (a .0) (a .1)) in
         let z : M ≡ N = one M N (a .0) (l .is-route) (⊑-eq h (k .longest N (b .0) (b .1))) in
         e ∙ ap some z ∙ sym f
-
--- ---- the longest match is unique, and is the match
 
 pub longest-unique : (t : Table) (X : Bits) {M N : Route} → OneEach t → Longest t X M → Longest t X N → M ≡ N
 longest-unique t X {M} {N} one k l = one M N (k .is-route) (l .is-route) (⊑-eq shorter (k .longest N (l .is-route) (l .covers)))

@@ -17,7 +17,7 @@ use Rattle.prefix.proofs.Booleans.{and-true, beq-eq, beq-refl, clash, either, n
 use Rattle.prefix.proofs.Common.{shared-great, shared-left, shared-right}
 use Rattle.prefix.proofs.Order.{take-len, take-⊑, ⊑-antisym, ⊑-by-length, ⊑-eq, ⊑-length, ⊑-of-eq, ⊑-total, ⊑-trans}
 use Rattle.prefix.proofs.Tests.{contains-⊑, eq-same, not-⊑, same-eq, strict-⊑, ⊑-apart, ⊑-strict}
-use Rattle.model.specs.Demands.{Legal, NoLonger, left}
+use Rattle.model.specs.Demands.{Legal, NoLonger}
 use Rattle.model.specs.Lists.{_∈_, any, keep, p-cons, p-nil}
 use Rattle.model.specs.Model.{Cache, Limits}
 use Rattle.model.specs.Nodes.{branches, examined, isExamined, isRoot, nodes, parent, towards, withoutRepeats}
@@ -28,6 +28,8 @@ use Rattle.model.proofs.ListLaws.{Pairwise-keep, Unique, any-false, any
 pub data Node (t : Table) (v : Bits) : Type 0 where
   of-one : (r : Route) → r ∈ t → v ≡ r .prefix → Node t v
   of-two : (r s : Route) → r ∈ t → s ∈ t → overlap (r .prefix) (s .prefix) ≡ false → v ≡ shared (r .prefix) (s .prefix) → Node t v
+
+-- ---- the nodes are those
 
 without-repeats-in : (l : List Bits) {p : Bits} → p ∈ withoutRepeats l → p ∈ l
 unfolding withoutRepeats
@@ -142,7 +144,8 @@ shared-< {u} {v} m = go (decLe (length v) (length (shared u v)))
     go (yes h) = absurd (m (⊑-trans (⊑-of-eq (sym (⊑-eq (shared-right u v) h))) (shared-left u v)))
     go (no h) = omega arith
 
--- ---- examined, without root and parent: v is examined where each node above it lies on the way to X, and v turns there as X does
+-- ---- examined, without root and parent: v is examined when past each node above it v goes on as X does
+
 abbrev pub Above : Table → Bits → Bits → Type 0
 Above t v u = (u ∈ nodes t) × (u ⊑ v) × (length u < length v)
 
@@ -165,7 +168,7 @@ pub root-above : (t : Table) (v : Bits) → isRoot (nodes t) v ≡ true → (u :
 unfolding isRoot
 root-above t v e u a = clash (lt-ltb (length u) (length v) (a .2)) (any-false (λ (u : Bits). ltb (length u) (length v)) (not-false _ e) (a .0))
 
--- two nodes with nothing of length k or more strictly above them, that agree in their first k bits, are one
+-- two nodes that begin with z, with nothing as long as z above them, are one
 pub node-one : (t : Table) (v w z : Bits) → v ∈ nodes t → w ∈ nodes t → z ⊑ v → z ⊑ w
     → ((u : Bits) → Above t v u → length u < length z) → ((u : Bits) → Above t w u → length u < length z) → v ≡ w
 node-one t v w z m n p q av aw = go (either (contains v w)) (either (contains w v))

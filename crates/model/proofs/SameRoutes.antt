@@ -1,4 +1,4 @@
--- Answers, next caches and nodes examined depend on the set of routes, not on the order in which the table lists them. Assumes nothing.
+-- Answers, next caches and nodes examined depend on the set of routes, not on the order in which a table lists them. Assumes nothing.
 use mathlib.Core.Bool.{Bool}
 use mathlib.Core.List.{List, Memᴰ·cast, _∷_}
 use mathlib.Core.Option.{Option, none, some}

@@ -22,7 +22,8 @@ use Rattle.model.specs.Runs.{State, accepted, judged, step, update}
 use Rattle.model.proofs.ListLaws.{Pairwise-keep, any-false, any-in, in-any, in-keep, keep-in, none-any}
 use Rattle.model.proofs.Match.{longest-match, match-agree, match-longest, match-none, one-each}
 
--- what the updated table holds
+-- ---- what the updated table holds
+
 pub in-updated : (t : Table) (u : Update) (r : Route) → r ∈ t → ¬ (r .prefix ≡ u .prefix) → r ∈ updated t u
 unfolding updated withAnnounced
 in-updated t u r m n = go (u .action)

@@ -26,11 +26,12 @@ module _ {A : Type 0} where
   omit test [] = []
   omit test (x ∷ l) = cond (test x) l (x ∷ omit test l)
 
-  -- the one of the greatest size
+  -- x, or what is bigger than x
   unfoldable pub bigger : (A → ℕ) → A → Option A → Option A
   bigger size x none = some x
   bigger size x (some y) = cond (ltb (size x) (size y)) (some y) (some x)
 
+  -- the one of the greatest size
   unfoldable pub biggest : (A → ℕ) → List A → Option A
   biggest size [] = none
   biggest size (x ∷ l) = bigger size x (biggest size l)

@@ -31,12 +31,12 @@ isRoot ns v = not (any (λ u. ltb (length u) (length v)) ns)
 unfoldable pub parent : List Bits → Bits → Option Bits
 parent ns v = biggest length (keep (λ p. strictlyInside v p) ns)
 
--- a node "whose parent contains X and which agrees with X in the bit after the parent's length"
+-- a node "whose parent contains X and which agrees with X in the bit after the parent's length": the bit of that number, from 0
 unfoldable pub towards : Bits → Bits → Option Bits → Bool
 towards X v none = false
 towards X v (some p) = contains p X && Bool·beq (getD v (length p) false) (getD X (length p) false)
 
--- "Examined for X: the root; and each node" that goes on from its parent towards X.
+-- "Examined for X: the root; and each node" of that kind. The root is examined also when it does not contain X.
 unfoldable pub isExamined : List Bits → Bits → Bits → Bool
 isExamined ns X v = isRoot ns v || towards X v (parent ns v)
 
