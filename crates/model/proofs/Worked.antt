@@ -1,16 +1,15 @@
 -- The worked run, and short runs for what it does not show. Each claim is decided by computing the model. Assumes nothing.
-use mathlib.Core.Bool.{Bool, true, false}
-use mathlib.Core.List.{List, [], _∷_, _++_, flatMap}
+use mathlib.Core.List.{List, [], _∷_, flatMap}
 use mathlib.Core.Path.{_≡_, refl}
-use Prim.Native.Nat.{ℕ, zero, suc, _+_, _-_, _*_, _^_}
+use Prim.Native.Nat.{ℕ, _+_, _-_, _*_, _^_}
 use lib.ListN.{take}
 use Rattle.prefix.specs.Bits.{Bits, bits}
 use Rattle.prefix.specs.Prefix.{contains, strictlyInside, overlap, same, common, shared}
 use Rattle.tallies.specs.Counting.{zeroTallies}
 use Rattle.model.specs.Lists.{keep, any, first, omit, bigger, biggest, largest}
-use Rattle.model.specs.Routes.{Route, match, announce, withdraw, held, withAnnounced, updated}
+use Rattle.model.specs.Routes.{match, announce, withdraw, held, withAnnounced, updated}
 use Rattle.model.specs.Nodes.{withoutRepeats, branches, nodes, isRoot, parent, towards, isExamined, examined}
-use Rattle.model.specs.Model.{Answer, hit, miss, drop, done, refused, newLength, lookTable, lookCache, lookup, withdraws, leaves, hopOf, fresh, refreshed, removed, changed, Limits, refusal}
+use Rattle.model.specs.Model.{hit, miss, drop, done, refused, newLength, lookTable, lookCache, lookup, withdraws, leaves, hopOf, fresh, refreshed, removed, changed, Limits, refusal}
 use Rattle.model.specs.Runs.{Call, look, update, State, tallied, looked, accepted, judged, step, answers, after, empty}
 
 -- the address a.b.c.d

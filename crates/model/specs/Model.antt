@@ -1,6 +1,6 @@
 -- "The lookup" and "Announcing and withdrawing": what each answers and what it leaves of the cache, and which updates are refused.
 -- Left to Runs: the tallies, and calls one after the other. Assumes nothing.
-use Prim.Native.Nat.{ℕ, zero, suc, _-_}
+use Prim.Native.Nat.{ℕ, suc, _-_}
 use mathlib.Core.Bool.{Bool, true, false, not, cond, _&&_, _||_}
 use mathlib.Core.List.{List, [], _∷_, _++_, map}
 use mathlib.Core.Option.{Option, none, some}

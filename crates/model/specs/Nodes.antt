@@ -1,6 +1,6 @@
 -- "Nodes examined", as that section counts them: by the set of nodes, not by how a trie is walked. Assumes nothing.
 use Prim.Native.Nat.{ℕ}
-use mathlib.Core.Bool.{Bool, true, false, not, cond, _&&_, _||_, Bool·beq}
+use mathlib.Core.Bool.{Bool, false, not, cond, _&&_, _||_, Bool·beq}
 use mathlib.Core.List.{List, [], _∷_, _++_, map, flatMap}
 use mathlib.Core.Option.{Option, none, some}
 use lib.ListN.{length, getD}
@@ -8,7 +8,7 @@ use lib.Dec.{ltb}
 use Rattle.prefix.specs.Bits.{Bits}
 use Rattle.prefix.specs.Prefix.{contains, strictlyInside, overlap, same, shared}
 use Rattle.model.specs.Lists.{keep, any, biggest}
-use Rattle.model.specs.Routes.{Route, Table}
+use Rattle.model.specs.Routes.{Table}
 
 -- "each longest common prefix of two routes of which neither lies inside the other"
 unfoldable pub branches : List Bits → List Bits

@@ -1,9 +1,9 @@
 -- Routes, the table that holds them, the longest match, and what an update does to the table. A prefix is the list of its bits and an
 -- address is a list of bits of full width, so that no width stands here. Left to Model: when an update is refused. Assumes nothing.
 use Prim.Native.Nat.{ℕ}
-use mathlib.Core.Bool.{Bool, true, false, not}
-use mathlib.Core.List.{List, [], _∷_}
-use mathlib.Core.Option.{Option, none, some}
+use mathlib.Core.Bool.{Bool, not}
+use mathlib.Core.List.{List, _∷_}
+use mathlib.Core.Option.{Option}
 use lib.ListN.{length}
 use Rattle.prefix.specs.Bits.{Bits}
 use Rattle.prefix.specs.Prefix.{contains, same}
