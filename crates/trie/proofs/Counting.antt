@@ -1,53 +1,47 @@
--- A trie that is not empty has fewer branch nodes than routes. Assumes nothing.
+-- A trie that is not empty has fewer branches than routes. Assumes nothing.
 use mathlib.Core.Path.{_≡_, refl, sym, ap, _∙_}
 use mathlib.Core.Bool.{Bool, true, false, false≢true}
-use mathlib.Core.List.{List, [], _∷_, List·Memᴰ, List·Memᴰ·head, List·Memᴰ·tail, List·Memᴰ·not-nil, List·Memᴰ·cases-cons}
-use mathlib.Core.Option.{Option, none, some, Option·none-ne-some}
+use mathlib.Core.List.{List, [], _∷_, List·Memᴰ, List·Memᴰ·not-nil, List·Memᴰ·cases-cons}
+use mathlib.Core.Option.{Option, none, some}
 use mathlib.Core.Logic.{_⊎_, inl, inr}
-use Prim.Native.Nat.{ℕ, zero, suc, _+_, _-_, _≤_, _<_, zero-le}
+use Prim.Native.Nat.{ℕ, zero, suc, _+_, _*_, _≤_, _<_}
 use native.Mathlib.Nat.{le-refl}
+use native.Mathlib.Decide.{decLt}
 use native.Mathlib.Omega.{arith}
 use lib.ListN.{length}
-use Rattle.trie.specs.Trie.{Cell, Root, Kid, Trie, Inside, Sound, Branchy}
+use Rattle.trie.specs.Trie.{Cell, Root, Kid, Trie, Sound, Branchy, Dense}
+use Rattle.trie.specs.Routes.{andRoute, routesOf}
 use Rattle.trie.proofs.Descent.{root-least}
+use Rattle.trie.proofs.Stores.{kid-slot, kid-side, not-root}
 use Rattle.trie.proofs.Pigeonhole.{Distinct, AllBelow, pigeonhole}
 
--- one more, for a branch node, and for a route
-unfoldable pub tally-branch : Option ℕ → ℕ → ℕ
-tally-branch none n = suc n
-tally-branch (some h) n = n
+-- how many of the slots below n are branches
+unfoldable andBranch : Option ℕ → ℕ → ℕ
+andBranch none n = suc n
+andBranch (some h) n = n
 
-unfoldable pub tally-route : Option ℕ → ℕ → ℕ
-tally-route none n = n
-tally-route (some h) n = suc n
-
--- how many of the slots below n are branch nodes, and routes
-unfoldable pub branches : (ℕ → Option ℕ) → ℕ → ℕ
+unfoldable branches : (ℕ → Option ℕ) → ℕ → ℕ
 branches hop zero = zero
-branches hop (suc n) = tally-branch (hop n) (branches hop n)
-
-unfoldable pub routes : (ℕ → Option ℕ) → ℕ → ℕ
-routes hop zero = zero
-routes hop (suc n) = tally-route (hop n) (routes hop n)
+branches hop (suc n) = andBranch (hop n) (branches hop n)
 
 branches-none : (hop : ℕ → Option ℕ) (n : ℕ) → hop n ≡ none → branches hop (suc n) ≡ suc (branches hop n)
-unfolding branches tally-branch
+unfolding branches andBranch
 branches-none hop n e = rw e
 
 branches-some : (hop : ℕ → Option ℕ) (n h : ℕ) → hop n ≡ some h → branches hop (suc n) ≡ branches hop n
-unfolding branches tally-branch
+unfolding branches andBranch
 branches-some hop n h e = rw e
 
-pub branches-routes : (hop : ℕ → Option ℕ) (n : ℕ) → branches hop n + routes hop n ≡ n
-unfolding branches routes tally-branch tally-route
-branches-routes hop zero = refl
-branches-routes hop (suc n) = go (hop n) (branches-routes hop n)
+branches-routes : (v : Trie) (n : ℕ) → branches (v .hop) n + length (routesOf v n) ≡ n
+unfolding branches routesOf andBranch andRoute
+branches-routes v zero = refl
+branches-routes v (suc n) = go (v .hop n) (branches-routes v n)
   where
-    go : (o : Option ℕ) → branches hop n + routes hop n ≡ n → tally-branch o (branches hop n) + tally-route o (routes hop n) ≡ suc n
+    go : (o : Option ℕ) → branches (v .hop) n + length (routesOf v n) ≡ n → andBranch o (branches (v .hop) n) + length (andRoute (v .prefix n) o (routesOf v n)) ≡ suc n
     go none e = omega arith
     go (some h) e = omega arith
 
-module _ {m : ℕ} {v : Trie} (S : Sound (λ a. a < m) v) (B : Branchy (λ a. a < m) v) where
+module _ {m : ℕ} {v : Trie} (S : Sound (Dense m) v) (B : Branchy (Dense m) v) where
   -- j is a child of a slot below n
   record ChildBelow (n j : ℕ) : Type 0 where
     of : ℕ
@@ -79,9 +73,7 @@ module _ {m : ℕ} {v : Trie} (S : Sound (λ a. a < m) v) (B : Branchy (λ a. a 
 
       -- a child of n is no child of a slot below n
       apart : (j : ℕ) (b : Bool) → v .child (Kid n b) ≡ some j → ChildBelow n j → ⊥
-      apart j b h k =
-          let z : _≡_ {A = Cell} (Kid n b) (Kid (k .of) (k .side)) = same-slot n (k .of) j b (k .side) l (omega (arith, k .lt)) h (k .child) in
-          let y : n ≡ k .of = cc in omega (arith, k .lt)
+      apart j b h k = omega (arith, k .lt, kid-slot (same-slot n (k .of) j b (k .side) l (omega (arith, k .lt)) h (k .child)))
 
       add : v .hop n ≡ none → Kids n → (x y : ℕ) → v .child (Kid n false) ≡ some x → v .child (Kid n true) ≡ some y → Kids (suc n)
       add e k x y p q = record {
@@ -92,9 +84,7 @@ module _ {m : ℕ} {v : Trie} (S : Sound (λ a. a < m) v) (B : Branchy (λ a. a 
       }
         where
           fresh : (x ≡ y) ⊎ List·Memᴰ x (k .all) → ⊥
-          fresh (inl e) =
-              let z : _≡_ {A = Cell} (Kid n false) (Kid n true) = same-slot n n x false true l l p (rw e q) in
-              let w : false ≡ true = cc in false≢true w
+          fresh (inl e) = false≢true (kid-side (same-slot n n x false true l l p (rw e q)))
           fresh (inr h) = apart x false p (k .from x h)
 
           second : (j : ℕ) → (j ≡ y) ⊎ List·Memᴰ j (k .all) → ChildBelow (suc n) j
@@ -109,18 +99,34 @@ module _ {m : ℕ} {v : Trie} (S : Sound (λ a. a < m) v) (B : Branchy (λ a. a 
       go none e k = let x = B n l e false in let y = B n l e true in add e k (x .0) (y .0) (x .1) (y .1)
       go (some h) e k = record { all = k .all; distinct = k .distinct; from = λ j h. wider (k .from j h); two = rw (branches-some (v .hop) n h e) (k .two) }
 
-  pub fewer-branches : 0 < m → branches (v .hop) m < routes (v .hop) m
-  fewer-branches pos =
+  fewer : 0 < m → branches (v .hop) m < length (routesOf v m)
+  fewer pos =
       let r = root-least S 0 pos in
       let k = kids m (le-refl m) in
       let p = pigeonhole m (r .0 ∷ k .all) (λ h. apart (r .0) (r .1) (k .from (r .0) h), k .distinct) (λ a h. below (r .0) (r .1) k a (List·Memᴰ·cases-cons h)) in
-      omega (arith, branches-routes (v .hop) m, k .two, p)
+      omega (arith, branches-routes v m, k .two, p)
     where
       apart : (r : ℕ) → v .child Root ≡ some r → ChildBelow m r → ⊥
-      apart r h k =
-          let z : _≡_ {A = Cell} Root (Kid (k .of) (k .side)) = sym (S .points Root r tt h .back) ∙ up-of (k .of) r (k .side) (k .lt) (k .child) in
-          let w : _≡_ {A = ℕ} 0 1 = cc in omega arith
+      apart r h k = not-root (sym (sym (S .points Root r tt h .back) ∙ up-of (k .of) r (k .side) (k .lt) (k .child)))
 
       below : (r : ℕ) → v .child Root ≡ some r → (k : Kids m) (a : ℕ) → (a ≡ r) ⊎ List·Memᴰ a (k .all) → a < m
       below r h k a (inl e) = rw e (S .points Root r tt h .is-live)
       below r h k a (inr i) = let c = k .from a i in S .points (Kid (c .of) (c .side)) a (c .lt) (c .child) .is-live
+
+  pub fewer-branches : 0 < m → m < 2 * length (routesOf v m)
+  fewer-branches pos = omega (arith, fewer pos, branches-routes v m)
+
+  -- twice as many slots as routes suffice, with two to spare while there is room for one more route
+  pub slots-fit : (limit : ℕ) → length (routesOf v m) ≤ limit → m ≤ 2 * limit
+  slots-fit limit l = go (decLt 0 m)
+    where
+      go : Dec (0 < m) → m ≤ 2 * limit
+      go (yes pos) = omega (arith, fewer-branches pos)
+      go (no z) = omega arith
+
+  pub slots-spare : (limit : ℕ) → length (routesOf v m) < limit → m + 2 ≤ 2 * limit
+  slots-spare limit l = go (decLt 0 m)
+    where
+      go : Dec (0 < m) → m + 2 ≤ 2 * limit
+      go (yes pos) = omega (arith, fewer-branches pos)
+      go (no z) = omega arith

@@ -1,69 +1,71 @@
 -- The descent by the bits of an address, on a sound trie: it meets every live node whose prefix contains the address. Assumes nothing.
 use mathlib.Core.Path.{_≡_, refl, sym, ap, _∙_}
-use mathlib.Core.Bool.{Bool, true, false, not, Bool-discrete}
-use mathlib.Core.Logic.{_⊎_, inl, inr, _↔_}
+use mathlib.Core.Bool.{Bool, true, false, cond}
 use mathlib.Core.Option.{Option, none, some, Option·none-ne-some}
 use Prim.Native.Nat.{ℕ, zero, suc, _+_, _-_, _≤_, _<_}
-use native.Mathlib.Nat.{not-suc-le-zero, le-refl, zero-add, suc-add, add-suc, add-zero}
-use native.Mathlib.Decide.{decLe, ℕ-discrete}
+use native.Mathlib.Nat.{not-suc-le-zero, le-refl, zero-add, suc-add, add-zero}
+use native.Mathlib.Decide.{decLe}
 use native.Mathlib.Omega.{arith}
-use lib.ListN.{length}
+use lib.ListN.{length, getD}
+use lib.Dec.{ltb}
+use borrow.Author.Tests.{ltb-true, lt-ltb}
 use Rattle.prefix.specs.Bits.{Bits}
-use Rattle.prefix.specs.Prefix.{_⊑_, ⊑nil, Below, shared}
-use Rattle.prefix.proofs.Order.{⊑-refl, ⊑-of-eq, ⊑-trans, ⊑-length, ⊑-antisym, ⊑-by-length, ⊑-eq, below-⊑, below-<, below-trans, below-bit, below-by-length, ⊑-cases, ⊑-dec}
-use Rattle.trie.proofs.Next.{next, next-below, below-next}
-use Rattle.trie.specs.Trie.{Cell, Root, Kid, Cell-discrete, Trie, Inside, Fits, Points, Owned, Sound}
+use Rattle.prefix.specs.Prefix.{contains, _⊑_, Below}
+use Rattle.prefix.proofs.Order.{⊑-refl, ⊑-of-eq, ⊑-trans, below-⊑, below-<, below-trans, below-bit}
+use Rattle.prefix.proofs.Tests.{contains-⊑, ⊑-contains}
+use Rattle.trie.specs.Trie.{Cell, Root, Kid, Trie, Inside, Fits, Points, Owned, Sound}
+use Rattle.trie.specs.Walk.{follow}
+use Rattle.trie.proofs.Next.{next-below, below-next}
 
-pub cell-dec : (c e : Cell) → Dec (c ≡ e)
-cell-dec = Cell-discrete ℕ-discrete Bool-discrete
+pub follow-to : (v : Trie) (X : Bits) (i : ℕ) {b : Bool} → Below (v .prefix i) b X → follow v X i ≡ v .child (Kid i b)
+unfolding follow
+follow-to v X i h = rw (lt-ltb (length (v .prefix i)) (length X) (below-< h), below-next h)
 
--- where the descent by X's bits goes from a node
-pub followBit : Trie → ℕ → Option Bool → Option ℕ
-followBit v i none = none
-followBit v i (some b) = v .child (Kid i b)
-
-pub follow : Trie → Bits → Option ℕ → Option ℕ
-follow v X none = none
-follow v X (some i) = followBit v i (next (v .prefix i) X)
-
-pub follow-to : (v : Trie) (X : Bits) (i : ℕ) {b : Bool} → Below (v .prefix i) b X → follow v X (some i) ≡ v .child (Kid i b)
-unfolding follow followBit
-follow-to v X i h = rw (below-next h)
-
-pub follow-inv : (v : Trie) (X : Bits) (i j : ℕ) → follow v X (some i) ≡ some j → (b : Bool) × Below (v .prefix i) b X × (v .child (Kid i b) ≡ some j)
-unfolding follow followBit
-follow-inv v X i j h = go (next (v .prefix i) X) refl h
+pub follow-inv : (v : Trie) (X : Bits) (i j : ℕ) → v .prefix i ⊑ X → follow v X i ≡ some j → (b : Bool) × Below (v .prefix i) b X × (v .child (Kid i b) ≡ some j)
+unfolding follow
+follow-inv v X i j p h = go (ltb (length (v .prefix i)) (length X)) refl h
   where
-    go : (o : Option Bool) → next (v .prefix i) X ≡ o → followBit v i o ≡ some j → (b : Bool) × Below (v .prefix i) b X × (v .child (Kid i b) ≡ some j)
-    go none f h = absurd (Option·none-ne-some j h)
-    go (some b) f h = (b, next-below (v .prefix i) X b f, h)
+    next : Bool
+    next = getD X (length (v .prefix i)) false
+
+    go : (t : Bool) → ltb (length (v .prefix i)) (length X) ≡ t → cond t (v .child (Kid i next)) none ≡ some j → (b : Bool) × Below (v .prefix i) b X × (v .child (Kid i b) ≡ some j)
+    go true e h = (next, next-below p (ltb-true (length (v .prefix i)) (length X) e), h)
+    go false e h = absurd (Option·none-ne-some j h)
 
 -- the node that the descent by X's bits reaches at depth d
-unfoldable pub path : Trie → Bits → ℕ → Option ℕ
-unfolding follow followBit
+onward : Trie → Bits → Option ℕ → Option ℕ
+onward v X none = none
+onward v X (some i) = cond (contains (v .prefix i) X) (follow v X i) none
+
+unfoldable path : Trie → Bits → ℕ → Option ℕ
+unfolding onward
 path v X zero = v .child Root
-path v X (suc d) = follow v X (path v X d)
+path v X (suc d) = onward v X (path v X d)
 
 -- the node at depth d + 1 is a child of the node at depth d
-pub record Step (v : Trie) (X : Bits) (d k : ℕ) : Type 0 where
-  pub from : ℕ
-  pub bit : Bool
-  pub is : path v X d ≡ some from
-  pub goes : Below (v .prefix from) bit X
-  pub to : v .child (Kid from bit) ≡ some k
+record Step (v : Trie) (X : Bits) (d k : ℕ) : Type 0 where
+  from : ℕ
+  bit : Bool
+  is : path v X d ≡ some from
+  goes : Below (v .prefix from) bit X
+  to : v .child (Kid from bit) ≡ some k
 
-pub path-step : (v : Trie) (X : Bits) (d k : ℕ) → path v X (suc d) ≡ some k → Step v X d k
-unfolding path
+path-step : (v : Trie) (X : Bits) (d k : ℕ) → path v X (suc d) ≡ some k → Step v X d k
+unfolding path onward
 path-step v X d k h = go (path v X d) refl h
   where
-    go : (o : Option ℕ) → path v X d ≡ o → follow v X o ≡ some k → Step v X d k
+    on : (i : ℕ) → path v X d ≡ some i → (t : Bool) → contains (v .prefix i) X ≡ t → cond t (follow v X i) none ≡ some k → Step v X d k
+    on i e true c h = let f = follow-inv v X i k (contains-⊑ (v .prefix i) X c) h in record { from = i; bit = f .0; is = e; goes = f .1; to = f .2 }
+    on i e false c h = absurd (Option·none-ne-some k h)
+
+    go : (o : Option ℕ) → path v X d ≡ o → onward v X o ≡ some k → Step v X d k
     go none e h = absurd (Option·none-ne-some k h)
-    go (some i) e h = let f = follow-inv v X i k h in record { from = i; bit = f .0; is = e; goes = f .1; to = f .2 }
+    go (some i) e h = on i e (contains (v .prefix i) X) refl h
 
 module _ {live : ℕ → Type 0} {v : Trie} (S : Sound live v) where
   -- every live node whose prefix X has is on the path
   reached : (X : Bits) (n i : ℕ) → live i → v .prefix i ⊑ X → length (v .prefix i) < n → (d : ℕ) × (path v X d ≡ some i)
-  unfolding path
+  unfolding path onward
   reached X zero i l p h = absurd (not-suc-le-zero h)
   reached X (suc n) i l p h =
       let o = S .owned i l in
@@ -74,12 +76,12 @@ module _ {live : ℕ → Type 0} {v : Trie} (S : Sound live v) where
       go Root u e f rec = (zero, e)
       go (Kid q b) u e f rec =
           let r = rec q u (⊑-trans (below-⊑ f) p) (omega (arith, below-< f)) in
-          (suc (r .0), rw (r .1, below-next (below-trans f p)) e)
+          (suc (r .0), rw (r .1, ⊑-contains (⊑-trans (below-⊑ f) p)) (follow-to v X q (below-trans f p) ∙ e))
 
-  pub on-path : (X : Bits) (i : ℕ) → live i → v .prefix i ⊑ X → (d : ℕ) × (path v X d ≡ some i)
+  on-path : (X : Bits) (i : ℕ) → live i → v .prefix i ⊑ X → (d : ℕ) × (path v X d ≡ some i)
   on-path X i l p = reached X (suc (length (v .prefix i))) i l p (le-refl _)
 
-  pub path-live : (X : Bits) (d i : ℕ) → path v X d ≡ some i → live i
+  path-live : (X : Bits) (d i : ℕ) → path v X d ≡ some i → live i
   unfolding path
   path-live X zero i h = S .points Root i tt h .is-live
   path-live X (suc d) i h = let s = path-step v X d i h in S .points (Kid (s .from) (s .bit)) i (path-live X d (s .from) (s .is)) (s .to) .is-live
@@ -154,3 +156,12 @@ module _ {live : ℕ → Type 0} {v : Trie} (S : Sound live v) where
           let y : s .from ≡ p = cc (s .is) in
           let x : s .bit ≡ b = below-bit (rw y at (s .goes)) h in
           (c .0, rw (y, x) at (s .to), c .2)
+
+  -- what belongs below a cell is reached through it
+  pub through : (c : Cell) (k : ℕ) → Inside live c → live k → Fits v c (v .prefix k) → (j : ℕ) × (v .child c ≡ some j) × (v .prefix j ⊑ v .prefix k)
+  through Root k i l f = root-least k l
+  through (Kid p b) k i l f = under p k b i l f
+
+  -- a cell that fits P, and whose node (if any) does not contain P: no slot holds P
+  pub absent : (P : Bits) (c : Cell) → Inside live c → Fits v c P → ((j : ℕ) → v .child c ≡ some j → ¬ (v .prefix j ⊑ P)) → (k : ℕ) → live k → ¬ (v .prefix k ≡ P)
+  absent P c i f n k l e = let t = through c k i l (rw e f) in n (t .0) (t .1) (rw e at (t .2))

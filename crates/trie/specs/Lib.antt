@@ -1,1 +1,5 @@
 pub mod Trie
+pub mod Walk
+pub mod Updates
+pub mod Routes
+pub mod Check

@@ -4,8 +4,9 @@
 -- sound by facts of one slot each, and the rest follows from them. Which slots are live is a parameter. Assumes nothing.
 use mathlib.Core.Path.{_≡_}
 use mathlib.Core.Bool.{Bool}
+use mathlib.Core.Logic.{_⊎_}
 use mathlib.Core.Option.{Option, none, some}
-use Prim.Native.Nat.{ℕ}
+use Prim.Native.Nat.{ℕ, _<_}
 use Rattle.prefix.specs.Bits.{Bits}
 use Rattle.prefix.specs.Prefix.{Below}
 
@@ -51,9 +52,30 @@ pub record Sound (live : ℕ → Type 0) (v : Trie) : Type 0 where
 abbrev pub Branchy : (ℕ → Type 0) → Trie → Type 0
 Branchy live v = (i : ℕ) → live i → v .hop i ≡ none → (b : Bool) → (j : ℕ) × (v .child (Kid i b) ≡ some j)
 
+-- the live slots of a table with m nodes
+abbrev pub Dense : ℕ → ℕ → Type 0
+Dense m a = a < m
+
+-- ---- what a trie holds, and what an update makes of it
+
 -- a route that is held
 pub record Held (live : ℕ → Type 0) (v : Trie) (p : Bits) (h : ℕ) : Type 0 where
   pub slot : ℕ
   pub is-live : live slot
   pub is-prefix : v .prefix slot ≡ p
   pub is-hop : v .hop slot ≡ some h
+
+-- w holds P → H, and else what v holds
+pub record Put (live live′ : ℕ → Type 0) (v w : Trie) (P : Bits) (H : ℕ) : Type 0 where
+  pub sound : Sound live′ w
+  pub branchy : Branchy live′ w
+  pub new : Held live′ w P H
+  pub keep : {p : Bits} {h : ℕ} → Held live v p h → ¬ (p ≡ P) → Held live′ w p h
+  pub inv : {p : Bits} {h : ℕ} → Held live′ w p h → ((p ≡ P) × (h ≡ H)) ⊎ (Held live v p h × (¬ (p ≡ P)))
+
+-- w holds what v holds, less the route of P
+pub record Removed (live live′ : ℕ → Type 0) (v w : Trie) (P : Bits) : Type 0 where
+  pub sound : Sound live′ w
+  pub branchy : Branchy live′ w
+  pub keep : {p : Bits} {h : ℕ} → Held live v p h → ¬ (p ≡ P) → Held live′ w p h
+  pub inv : {p : Bits} {h : ℕ} → Held live′ w p h → Held live v p h × (¬ (p ≡ P))

@@ -1,0 +1,65 @@
+-- "The descent stops at the last node that contains the address and yields that place, or that there is none." The descent from the
+-- root by the bits of X, which is an address, or a prefix that is looked for. Assumes nothing.
+use mathlib.Core.Bool.{Bool, true, false, cond}
+use mathlib.Core.Option.{Option, none, some}
+use Prim.Native.Nat.{ℕ, zero, suc}
+use lib.ListN.{length, getD}
+use lib.Dec.{ltb}
+use Rattle.prefix.specs.Bits.{Bits}
+use Rattle.prefix.specs.Prefix.{contains, common}
+use Rattle.trie.specs.Trie.{Cell, Root, Kid, Trie}
+
+-- where a descent stopped
+pub record Stop : Type 0 where
+  -- the deepest node that contains X
+  pub last : Option ℕ
+  -- the node after it on the side of X, which does not contain X
+  pub beyond : Option ℕ
+  -- the deepest route that contains X
+  pub best : Option ℕ
+  -- the number of nodes examined
+  pub examined : ℕ
+
+-- the best after the node i, by its hop
+unfoldable pub better : Option ℕ → ℕ → Option ℕ → Option ℕ
+better none i best = best
+better (some h) i best = some i
+
+-- where the descent goes from the node i, which contains X: by the bit of X after i's length, if X has one
+unfoldable pub follow : Trie → Bits → ℕ → Option ℕ
+follow v X i = cond (ltb (length (v .prefix i)) (length X)) (v .child (Kid i (getD X (length (v .prefix i)) false))) none
+
+-- a step at the node i: it contains X and the descent goes on, or it stops there
+unfoldable pub walk : Trie → Bits → ℕ → Option ℕ → Option ℕ → Option ℕ → ℕ → Stop
+walk v X zero cursor last best examined = record { last = last; beyond = none; best = best; examined = examined }
+walk v X (suc fuel) none last best examined = record { last = last; beyond = none; best = best; examined = examined }
+walk v X (suc fuel) (some i) last best examined = elim (contains (v .prefix i) X) [
+  | true ↦ walk v X fuel (follow v X i) (some i) (better (v .hop i) i best) (suc examined)
+  | false ↦ record { last = last; beyond = some i; best = best; examined = suc examined }
+]
+
+-- from the root; no descent takes more steps than that
+unfoldable pub descent : Trie → Bits → Stop
+descent v X = walk v X (suc (length X)) (v .child Root) none none 0
+
+-- ---- what a stop tells
+
+-- the cell where the descent stopped, if its last node is shorter than X
+unfoldable pub cellAfter : Trie → Bits → Option ℕ → Cell
+cellAfter v X none = Root
+cellAfter v X (some i) = Kid i (getD X (length (v .prefix i)) false)
+
+-- the routes' part of "n is the largest of: M's length; 1 + Common(X, R) for each route R that does not contain X": by the node beyond
+-- the last one, or by the last one, which is longer by one bit than itself where it has children
+unfoldable pub lengthAt : Trie → ℕ → Option ℕ → Option ℕ → ℕ
+lengthAt v i none none = length (v .prefix i)
+lengthAt v i none (some r) = suc (length (v .prefix i))
+lengthAt v i (some l) right = suc (length (v .prefix i))
+
+unfoldable pub lengthFrom : Trie → Bits → Option ℕ → Option ℕ → ℕ
+lengthFrom v X last (some j) = suc (common X (v .prefix j))
+lengthFrom v X (some i) none = lengthAt v i (v .child (Kid i false)) (v .child (Kid i true))
+lengthFrom v X none none = 0
+
+unfoldable pub newFrom : Trie → Bits → Stop → ℕ
+newFrom v X stop = lengthFrom v X (stop .last) (stop .beyond)
