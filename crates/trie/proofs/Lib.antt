@@ -12,3 +12,5 @@ pub mod Checking
 pub mod Holding
 pub mod Counting
 pub mod NodeSet
+pub mod Meeting
+pub mod Looking

@@ -89,11 +89,11 @@ module _ {live : ℕ → Type 0} {v : Trie} (S : Sound live v) where
         (record { slot = r .slot; is-live = r .is-live; value = r .value; is-route = r .is-route; below = ⊑-trans (below-⊑ (p .fits)) (r .below) }, below-trans (p .fits) (r .below))
 
 -- the lengths below m are bounded
-longest : Trie → ℕ → ℕ
+pub longest : Trie → ℕ → ℕ
 longest v zero = 0
 longest v (suc m) = max (length (v .prefix m)) (longest v m)
 
-longest-most : (v : Trie) (m i : ℕ) → i < m → length (v .prefix i) ≤ longest v m
+pub longest-most : (v : Trie) (m i : ℕ) → i < m → length (v .prefix i) ≤ longest v m
 unfolding longest
 longest-most v zero i l = absurd (not-suc-le-zero l)
 longest-most v (suc m) i l = go (ℕ-discrete i m) (longest-most v m i)
