@@ -1,5 +1,5 @@
 -- A trie that is not empty has fewer branches than routes. Assumes nothing.
-use mathlib.Core.Path.{_≡_, refl, sym, ap, _∙_}
+use mathlib.Core.Path.{_≡_, refl, sym, _∙_}
 use mathlib.Core.Bool.{Bool, true, false, false≢true}
 use mathlib.Core.List.{List, [], _∷_, List·Memᴰ, List·Memᴰ·not-nil, List·Memᴰ·cases-cons}
 use mathlib.Core.Option.{Option, none, some}
@@ -9,11 +9,11 @@ use native.Mathlib.Nat.{le-refl}
 use native.Mathlib.Decide.{decLt}
 use native.Mathlib.Omega.{arith}
 use lib.ListN.{length}
-use Rattle.trie.specs.Trie.{Cell, Root, Kid, Trie, Sound, Branchy, Dense}
+use Rattle.trie.specs.Trie.{Root, Kid, Trie, Sound, Branchy, Dense}
 use Rattle.trie.specs.Routes.{andRoute, routesOf}
 use Rattle.trie.proofs.Descent.{root-least}
 use Rattle.trie.proofs.Stores.{kid-slot, kid-side, not-root}
-use Rattle.trie.proofs.Pigeonhole.{Distinct, AllBelow, pigeonhole}
+use Rattle.trie.proofs.Pigeonhole.{Distinct, pigeonhole}
 
 -- how many of the slots below n are branches
 unfoldable andBranch : Option ℕ → ℕ → ℕ

@@ -9,7 +9,7 @@ use lib.ListN.{length}
 use Rattle.prefix.specs.Bits.{Bits}
 use Rattle.prefix.specs.Prefix.{_⊑_}
 use Rattle.prefix.proofs.Order.{below-⊑, below-<, below-trans}
-use Rattle.trie.specs.Trie.{Cell, Root, Kid, Trie, Inside, Fits, Points, Owned, Sound, Branchy, Held}
+use Rattle.trie.specs.Trie.{Cell, Root, Kid, Trie, Inside, Fits, Points, Owned, Sound, Held}
 use Rattle.trie.specs.Updates.{cell-dec}
 use Rattle.trie.proofs.Descent.{inject}
 

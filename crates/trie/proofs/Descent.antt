@@ -1,5 +1,5 @@
 -- The descent by the bits of an address, on a sound trie: it meets every live node whose prefix contains the address. Assumes nothing.
-use mathlib.Core.Path.{_≡_, refl, sym, ap, _∙_}
+use mathlib.Core.Path.{_≡_, refl, ap, _∙_}
 use mathlib.Core.Bool.{Bool, true, false, cond}
 use mathlib.Core.Option.{Option, none, some, Option·none-ne-some}
 use Prim.Native.Nat.{ℕ, zero, suc, _+_, _-_, _≤_, _<_}
@@ -13,7 +13,7 @@ use Rattle.prefix.specs.Bits.{Bits}
 use Rattle.prefix.specs.Prefix.{contains, _⊑_, Below}
 use Rattle.prefix.proofs.Order.{⊑-refl, ⊑-of-eq, ⊑-trans, below-⊑, below-<, below-trans, below-bit}
 use Rattle.prefix.proofs.Tests.{contains-⊑, ⊑-contains}
-use Rattle.trie.specs.Trie.{Cell, Root, Kid, Trie, Inside, Fits, Points, Owned, Sound}
+use Rattle.trie.specs.Trie.{Cell, Root, Kid, Trie, Inside, Fits, Sound}
 use Rattle.trie.specs.Walk.{follow}
 use Rattle.trie.proofs.Next.{next-below, below-next}
 

@@ -1,30 +1,31 @@
 -- The routes of a trie as the model's table, and what an update makes of them. Assumes nothing.
 use mathlib.Core.Path.{_≡_, refl, sym, ap, _∙_}
-use mathlib.Core.Bool.{Bool, true, false, not}
-use mathlib.Core.List.{List, [], _∷_, List·Memᴰ·head, List·Memᴰ·tail, List·Memᴰ·not-nil, List·Memᴰ·cases-cons, Memᴰ·cast}
+use mathlib.Core.Bool.{Bool, true, false}
+use mathlib.Core.List.{_∷_, List·Memᴰ·head, List·Memᴰ·tail, List·Memᴰ·not-nil, List·Memᴰ·cases-cons, Memᴰ·cast}
 use mathlib.Core.Logic.{_⊎_, inl, inr}
 use mathlib.Core.Option.{Option, none, some, Option·none-ne-some}
 use Prim.Native.Nat.{ℕ, zero, suc, _≤_, _<_}
-use native.Mathlib.Nat.{not-suc-le-zero}
+use native.Mathlib.Nat.{le-refl, not-suc-le-zero}
 use native.Mathlib.Decide.{ℕ-discrete}
 use native.Mathlib.Omega.{arith}
 use lib.ListN.{length}
 use Rattle.prefix.specs.Bits.{Bits}
-use Rattle.prefix.specs.Prefix.{contains, same}
+use Rattle.prefix.specs.Prefix.{same}
 use Rattle.prefix.proofs.Booleans.{is-false, clash}
 use Rattle.prefix.proofs.Tests.{same-eq, eq-same, not-⊑}
-use Rattle.model.specs.Lists.{_∈_, Pairwise, p-nil, p-cons}
-use Rattle.model.specs.Routes.{Route, Table, Action, announce, withdraw, Update, held, withAnnounced, updated}
+use Rattle.model.specs.Lists.{_∈_, p-nil, p-cons}
+use Rattle.model.specs.Routes.{Route, Table, announce, withdraw, Update, held, withAnnounced, updated}
 use Rattle.model.specs.Demands.{Distinct, SameRoutes, Standing, announced, kept}
 use Rattle.model.proofs.ListLaws.{in-any, any-in}
 use Rattle.model.proofs.Match.{one-each}
 use Rattle.model.proofs.Updates.{in-updated, updated-in, updated-distinct, new-in}
 use Rattle.model.proofs.SameRoutes.{length-same}
-use Rattle.trie.specs.Trie.{Trie, Sound, Branchy, Dense, Held, Put, Removed}
+use Rattle.trie.specs.Trie.{Trie, Sound, Dense, Held, Put, Removed}
 use Rattle.trie.specs.Walk.{descent}
 use Rattle.trie.specs.Routes.{andRoute, routesOf}
 use Rattle.trie.proofs.Descent.{inject, absent}
 use Rattle.trie.proofs.Walking.{Landed}
+use Rattle.trie.proofs.Moving.{Agrees}
 
 -- ---- the routes are those held
 
@@ -59,6 +60,15 @@ held-in v (suc m) {p} {h} r = go (ℕ-discrete (r .slot) m) (λ k. held-in v m k
         let f : v .hop m ≡ some h = ap (v .hop) (sym z) ∙ r .is-hop in
         rw (e, f) (List·Memᴰ·head refl)
     go (no n) rec = wider (v .hop m) (rec (record { slot = r .slot; is-live = omega (arith, r .is-live); is-prefix = r .is-prefix; is-hop = r .is-hop }))
+
+-- they are those of the live slots alone
+pub agrees-routes : {m : ℕ} {v w : Trie} → Agrees (Dense m) v w → routesOf w m ≡ routesOf v m
+unfolding routesOf
+agrees-routes {m} {v} {w} k = go m (le-refl m)
+  where
+    go : (n : ℕ) → n ≤ m → routesOf w n ≡ routesOf v n
+    go zero l = refl
+    go (suc n) l = rw (k .prefix n l, k .hop n l, go n (omega arith))
 
 module _ {m : ℕ} {v : Trie} (S : Sound (Dense m) v) where
   distinct-below : (n : ℕ) → n ≤ m → Distinct (routesOf v n)

@@ -11,7 +11,7 @@ use native.Mathlib.Decide.{decLe}
 use native.Mathlib.Omega.{arith}
 use lib.ListN.{length, take, length-map}
 use Rattle.prefix.specs.Bits.{Bits}
-use Rattle.prefix.specs.Prefix.{contains, common, shared, strictlyInside, _⊑_, ⊑nil, ⊑cons, Below, here, there}
+use Rattle.prefix.specs.Prefix.{contains, common, _⊑_, ⊑nil, ⊑cons, Below, here, there}
 use Rattle.prefix.proofs.Booleans.{is-false}
 use Rattle.prefix.proofs.Order.{⊑-length, ⊑-trans, below-⊑, below-<, below-trans, below-by-length}
 use Rattle.prefix.proofs.Common.{common-le, shared-length, shared-left, shared-right, below-shared}
@@ -34,7 +34,7 @@ use Rattle.trie.proofs.Descent.{follow-to, follow-inv, root-least, unde
 use Rattle.trie.proofs.Walking.{Trail, at-root, past, Ending, off, parted, ending, trail-cursor}
 use Rattle.trie.proofs.Meeting.{trail-longer, all-met, best-route, best-longest}
 use Rattle.trie.proofs.Holding.{held-in, in-held, routes-distinct}
-use Rattle.trie.proofs.NodeSet.{RouteBelow, route-below, longest, longest-most, node-slot, slot-node}
+use Rattle.trie.proofs.NodeSet.{route-below, longest, longest-most, node-slot, slot-node}
 
 -- two lists that go on from p with one bit agree that far
 turn : {p q x : Bits} {b : Bool} → Below p b q → Below p b x → take (suc (length p)) q ⊑ x

@@ -1,7 +1,7 @@
 -- The descent meets every node that contains X, so its best is the deepest route that does. Assumes nothing.
 use mathlib.Core.Path.{_≡_, refl, sym, ap, _∙_}
-use mathlib.Core.Bool.{Bool, true}
-use mathlib.Core.List.{List, [], _∷_, List·Memᴰ, List·Memᴰ·head, List·Memᴰ·tail, List·Memᴰ·not-nil, List·Memᴰ·cases-cons}
+use mathlib.Core.Bool.{Bool}
+use mathlib.Core.List.{List, _∷_, List·Memᴰ, List·Memᴰ·head, List·Memᴰ·tail, List·Memᴰ·not-nil, List·Memᴰ·cases-cons}
 use mathlib.Core.Logic.{_⊎_, inl, inr}
 use mathlib.Core.Option.{Option, none, some, Option·none-ne-some}
 use Prim.Native.Nat.{ℕ, _≤_, _<_}
@@ -9,11 +9,11 @@ use native.Mathlib.Nat.{le-refl}
 use native.Mathlib.Omega.{arith}
 use lib.ListN.{length}
 use Rattle.prefix.specs.Bits.{Bits}
-use Rattle.prefix.specs.Prefix.{contains, _⊑_, Below}
+use Rattle.prefix.specs.Prefix.{_⊑_, Below}
 use Rattle.prefix.proofs.Order.{⊑-trans, ⊑-cases, below-<, below-trans}
-use Rattle.prefix.proofs.Tests.{contains-⊑, not-⊑}
-use Rattle.trie.specs.Trie.{Root, Kid, Trie, Sound}
-use Rattle.trie.specs.Walk.{better, follow}
+use Rattle.prefix.proofs.Tests.{contains-⊑}
+use Rattle.trie.specs.Trie.{Kid, Trie, Sound}
+use Rattle.trie.specs.Walk.{better}
 use Rattle.trie.proofs.Descent.{follow-to, follow-inv, inject, root-least, under}
 use Rattle.trie.proofs.Walking.{Trail, at-root, past, trail-cursor}
 

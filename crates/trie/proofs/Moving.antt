@@ -75,6 +75,46 @@ module _ {live live′ : ℕ → Type 0} {v w : Trie} {f : ℕ → ℕ} (S : Sou
           let k = B x lx (sym (r .hop x lx) ∙ ap (w .hop) z ∙ h) b in
           (f (k .0), ap (λ (y : ℕ). w .child (Kid y b)) (sym z) ∙ r .child (Kid x b) lx ∙ ap (Option·map f) (k .1))
 
+-- ---- the same slots
+
+-- w is v in the live slots
+pub record Agrees (live : ℕ → Type 0) (v w : Trie) : Type 0 where
+  pub prefix : (i : ℕ) → live i → w .prefix i ≡ v .prefix i
+  pub hop : (i : ℕ) → live i → w .hop i ≡ v .hop i
+  pub up : (i : ℕ) → live i → w .up i ≡ v .up i
+  pub child : (c : Cell) → Inside live c → w .child c ≡ v .child c
+
+pub agrees-self : {live : ℕ → Type 0} (v : Trie) → Agrees live v v
+agrees-self v = record { prefix = λ i l. refl; hop = λ i l. refl; up = λ i l. refl; child = λ c i. refl }
+
+pub agrees-renamed : {live live′ : ℕ → Type 0} {v w : Trie} → Agrees live v w → ((a : ℕ) → live a → live′ a) → ((a : ℕ) → live′ a → live a) → Renamed live live′ v w (λ a. a)
+agrees-renamed {live} {live′} {v} {w} k f g = record {
+  to = f;
+  from = λ a l. (a, g a l, refl);
+  prefix = k .prefix;
+  hop = k .hop;
+  up = λ a l. k .up a l ∙ up (v .up a);
+  child = λ c i. child c i;
+}
+  where
+    up : (c : Cell) → c ≡ cellMap (λ a. a) c
+    up Root = refl
+    up (Kid i b) = refl
+
+    same : (o : Option ℕ) → o ≡ Option·map (λ (a : ℕ). a) o
+    same none = refl
+    same (some a) = refl
+
+    child : (c : Cell) → Inside live c → w .child (cellMap (λ a. a) c) ≡ Option·map (λ (a : ℕ). a) (v .child c)
+    child Root i = k .child Root i ∙ same (v .child Root)
+    child (Kid a b) i = k .child (Kid a b) i ∙ same (v .child (Kid a b))
+
+pub agrees-sound : {live : ℕ → Type 0} {v w : Trie} → Agrees live v w → Sound live v → Sound live w
+agrees-sound k S = renamed-sound S (agrees-renamed k (λ a l. l) (λ a l. l))
+
+pub agrees-branchy : {live : ℕ → Type 0} {v w : Trie} → Agrees live v w → Sound live v → Branchy live v → Branchy live w
+agrees-branchy k S B = renamed-branchy S (agrees-renamed k (λ a l. l) (λ a l. l)) B
+
 -- ---- one move
 
 -- w is v with the node of slot s in slot t

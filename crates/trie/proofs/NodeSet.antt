@@ -14,7 +14,6 @@ use Rattle.prefix.proofs.Order.{⊑-refl, ⊑-trans, below-⊑, below-<, below-
 use Rattle.prefix.proofs.Common.{shared-left, shared-right, shared-great, shared-parted}
 use Rattle.prefix.proofs.Tests.{not-⊑, apart-⊑, ⊑-apart}
 use Rattle.model.specs.Lists.{_∈_}
-use Rattle.model.specs.Routes.{Route}
 use Rattle.model.specs.Nodes.{nodes}
 use Rattle.model.specs.Demands.{NoLonger}
 use Rattle.model.proofs.NodeLaws.{Node, of-one, of-two, node-in, in-node, node-short}

@@ -1,14 +1,12 @@
 -- What a store changes and what it leaves. Assumes nothing.
-use mathlib.Core.Path.{_≡_, refl, sym, ap}
-use mathlib.Core.Bool.{Bool, true, false, true≢false, false≢true}
+use mathlib.Core.Path.{_≡_, refl, sym}
+use mathlib.Core.Bool.{Bool, true, false, false≢true}
 use mathlib.Core.Option.{Option, none, some, Option·none-ne-some}
-use Prim.Native.Nat.{ℕ, zero, suc}
-use native.Mathlib.Decide.{ℕ-discrete}
+use Prim.Native.Nat.{ℕ}
 use native.Mathlib.Omega.{arith}
-use borrow.Author.Tests.{eq-eqb, ne-eqb}
 use Rattle.prefix.specs.Bits.{Bits}
 use Rattle.trie.specs.Trie.{Cell, Root, Kid, Trie, Inside}
-use Rattle.trie.specs.Updates.{cell-dec, upd, setHop, setChild, setUp, setNode, setSlot, updOf, setUpOf, onSide, moveAt, fillAt}
+use Rattle.trie.specs.Updates.{upd, setHop, setChild, setUp, setNode, setSlot, updOf, setUpOf}
 
 module _ {I A : Type 0} (dec : (x y : I) → Dec (x ≡ y)) (f : I → A) (k : I) (a : A) where
   pub upd-same : (i : I) → i ≡ k → upd dec f k a i ≡ a

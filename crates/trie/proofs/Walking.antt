@@ -9,9 +9,9 @@ use native.Mathlib.Omega.{arith}
 use lib.ListN.{length, getD}
 use borrow.Author.Tests.{lt-ltb, le-ltb}
 use Rattle.prefix.specs.Bits.{Bits}
-use Rattle.prefix.specs.Prefix.{contains, _⊑_, Below}
+use Rattle.prefix.specs.Prefix.{contains, Below}
 use Rattle.prefix.proofs.Order.{⊑-length, ⊑-eq, below-<}
-use Rattle.prefix.proofs.Tests.{contains-⊑}
+use Rattle.prefix.proofs.Tests.{contains-⊑, ⊑-not}
 use Rattle.trie.specs.Trie.{Cell, Root, Kid, Trie, Inside, Fits, Sound}
 use Rattle.trie.specs.Walk.{Stop, better, follow, walk, descent, cellAfter}
 use Rattle.trie.proofs.Next.{next-below}
@@ -27,6 +27,10 @@ module _ (v : Trie) (X : Bits) (i : ℕ) where
   pub follow-none : length X ≤ length (v .prefix i) → follow v X i ≡ none
   unfolding follow
   follow-none l = rw (le-ltb (length (v .prefix i)) (length X) l)
+
+  -- a node that is longer than X does not contain it
+  pub long-out : length X < length (v .prefix i) → contains (v .prefix i) X ≡ false
+  long-out l = ⊑-not (λ h. omega (arith, ⊑-length h))
 
 module _ (v : Trie) (X : Bits) (fuel : ℕ) (last best : Option ℕ) (n : ℕ) where
   pub walk-off : walk v X fuel none last best n ≡ record { last = last; beyond = none; best = best; examined = n }
@@ -168,14 +172,20 @@ module _ {live : ℕ → Type 0} {v : Trie} (S : Sound live v) (X : Bits) where
       (trail-cursor S X t i refl, next-below h l, sym (follow-bit v X i l) ∙ e)
 
   -- no node is X's own
-  pub landed : ((i : ℕ) → descent v X .last ≡ some i → ¬ (length (v .prefix i) ≡ length X)) → Landed live v X (descent v X)
-  landed n = go (descent v X) (ending S X) n
+  shorter : ((i : ℕ) → descent v X .last ≡ some i → ¬ (length (v .prefix i) ≡ length X)) → Landed live v X (descent v X)
+  shorter n = go (descent v X) (ending S X) n
     where
       go : (s : Stop) → Ending v X s → ((i : ℕ) → s .last ≡ some i → ¬ (length (v .prefix i) ≡ length X)) → Landed live v X s
       go s (off t e) n = rw e (let p = stands t (λ i h. n i (ap (λ (r : Stop). r .last) e ∙ h)) in
           record { inside = p .0; fits = p .1; child = p .2; out = λ j h. absurd (Option·none-ne-some j h) })
       go s (parted i t c e) n = rw e (let p = stands t (λ i h. n i (ap (λ (r : Stop). r .last) e ∙ h)) in
           record { inside = p .0; fits = p .1; child = p .2; out = λ j h. let z : i ≡ j = cc in rw z at c })
+
+  pub landed-root : descent v X .last ≡ none → Landed live v X (descent v X)
+  landed-root e = shorter (λ i h. absurd (Option·none-ne-some i (sym e ∙ h)))
+
+  pub landed-below : (i : ℕ) → descent v X .last ≡ some i → ¬ (length (v .prefix i) ≡ length X) → Landed live v X (descent v X)
+  landed-below i e n = shorter (λ j h. let z : i ≡ j = cc in rw z at n)
 
 -- ---- where a prefix belongs
 
@@ -201,8 +211,8 @@ place {live} {v} S P = last (descent v P .last) refl
 
     own : (i : ℕ) → descent v P .last ≡ some i → Dec (length (v .prefix i) ≡ length P) → Place live v P
     own i e (yes z) = let f = at-last S P i e z in found i (f .0) (f .1)
-    own i e (no n) = cell (landed S P (λ j h. let z : i ≡ j = cc in rw z at n))
+    own i e (no n) = cell (landed-below S P i e n)
 
     last : (o : Option ℕ) → descent v P .last ≡ o → Place live v P
-    last none e = cell (landed S P (λ j h. absurd (Option·none-ne-some j (sym e ∙ h))))
+    last none e = cell (landed-root S P e)
     last (some i) e = own i e (ℕ-discrete (length (v .prefix i)) (length P))

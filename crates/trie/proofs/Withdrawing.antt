@@ -1,22 +1,21 @@
 -- What a withdrawal leaves of a trie, for each shape in which its node can stand. A node that goes leaves a free slot, which the node
 -- of the last slot fills. Assumes nothing.
 use mathlib.Core.Path.{_≡_, refl, sym, ap, _∙_}
-use mathlib.Core.Bool.{Bool, true, false, not, Bool-discrete, cond, false≢true}
+use mathlib.Core.Bool.{Bool, true, false, not, Bool-discrete, false≢true}
 use mathlib.Core.Logic.{_⊎_, inl, inr}
-use mathlib.Core.Option.{Option, none, some, Option·map, Option·none-ne-some}
+use mathlib.Core.Option.{Option, none, some, Option·none-ne-some}
 use Prim.Native.Nat.{ℕ, _-_, _≤_, _<_}
 use native.Mathlib.Decide.{ℕ-discrete, decLt}
 use native.Mathlib.Omega.{arith}
-use lib.Dec.{ltb}
 use borrow.Author.Tests.{eq-eqb, ne-eqb, lt-ltb, le-ltb}
 use Rattle.prefix.specs.Bits.{Bits}
 use Rattle.prefix.proofs.Booleans.{bool-other, not-ne}
-use Rattle.trie.specs.Trie.{Cell, Root, Kid, Trie, Inside, Fits, Points, Sound, Branchy, Dense, Held, Removed}
-use Rattle.trie.specs.Updates.{upd, setHop, setChild, setUp, setNode, setSlot, updOf, setUpOf, unhopAt, cutAt, moveAt, fillAt, fillBoth}
+use Rattle.trie.specs.Trie.{Cell, Root, Kid, Trie, Fits, Points, Sound, Branchy, Dense, Held, Removed}
+use Rattle.trie.specs.Updates.{upd, setHop, setChild, setUp, setNode, setSlot, setUpOf, unhopAt, cutAt, moveAt, fillAt, fillBoth}
 use Rattle.trie.proofs.Descent.{inject}
 use Rattle.trie.proofs.Stores.{upd-same, upd-other, set-hop, set-hop-other, upd-of-same, upd-of-other, kid-slot, kid-side, not-root, fresh-cell, slot-cell, slot-new, slot-old}
 use Rattle.trie.proofs.Cutting.{Cut, cut-sound, cut-held, cut-held-inv, cut-full}
-use Rattle.trie.proofs.Moving.{cellMap, Renamed, renamed-sound, renamed-held, renamed-held-inv, renamed-branchy, Moved, ren, moved-renamed}
+use Rattle.trie.proofs.Moving.{Renamed, renamed-sound, renamed-held, renamed-held-inv, renamed-branchy, agrees-renamed, agrees-self, Moved, ren, moved-renamed}
 
 -- ---- what the two steps change
 
@@ -96,21 +95,6 @@ pub fill-both-flip : (v : Trie) (n x y : ℕ) → x < y → fillBoth v n x y ≡
 unfolding fillBoth
 fill-both-flip v n x y l = rw (lt-ltb x y l)
 
-renamed-id : {live live′ : ℕ → Type 0} (v : Trie) → ((a : ℕ) → live a → live′ a) → ((a : ℕ) → live′ a → live a) → Renamed live live′ v v (λ a. a)
-renamed-id v f g = record { to = f; from = λ a l. (a, g a l, refl); prefix = λ a l. refl; hop = λ a l. refl; up = λ a l. up (v .up a); child = λ c i. child c }
-  where
-    up : (c : Cell) → c ≡ cellMap (λ a. a) c
-    up Root = refl
-    up (Kid i b) = refl
-
-    same : (o : Option ℕ) → o ≡ Option·map (λ (a : ℕ). a) o
-    same none = refl
-    same (some a) = refl
-
-    child : (c : Cell) → v .child (cellMap (λ a. a) c) ≡ Option·map (λ (a : ℕ). a) (v .child c)
-    child Root = same (v .child Root)
-    child (Kid i b) = same (v .child (Kid i b))
-
 -- live is all up to m but the free slot x (and others), and live′ is the same below m, with x
 record Hole (live live′ : ℕ → Type 0) (m x : ℕ) : Type 0 where
   within : x ≤ m
@@ -131,7 +115,7 @@ filled {live} {live′} {v} {m} {x} S o = go (ℕ-discrete x m)
     from a h (inr e) = inr e
 
     go : Dec (x ≡ m) → (f : ℕ → ℕ) × Renamed live live′ v (fillAt v m x) f
-    go (yes z) = rw (fill-last v m x z) ((λ a. a), renamed-id v (λ a l. o .keep a l (omega (arith, o .bound a l))) (λ a l. back z a (o .inv a l .0) (o .inv a l .1)))
+    go (yes z) = rw (fill-last v m x z) ((λ a. a), agrees-renamed (agrees-self v) (λ a l. o .keep a l (omega (arith, o .bound a l))) (λ a l. back z a (o .inv a l .0) (o .inv a l .1)))
     go (no n) =
         let h : x < m = omega (arith, o .within) in
         let t = o .new h in
@@ -320,32 +304,35 @@ module _ {live : ℕ → Type 0} {v : Trie} (S : Sound live v) (B : Branchy live
               let s = cut-held S li c₁ r (λ z. n (sym (r .is-prefix) ∙ ap (v .prefix) z)) in
               cut-held S₁ lp c₂ s (λ z. Option·none-ne-some h (sym ph ∙ sym (c₁ .hop-old p lp) ∙ ap ((cutAt v i none) .hop) (sym z) ∙ s .is-hop))
 
--- ---- the whole of a withdrawal, from a table of n slots
+-- ---- the whole of a withdrawal, from a table of n slots: the node i is the route of P
 
-module _ (n : ℕ) {v : Trie} (S : Sound (Dense n) v) (B : Branchy (Dense n) v) (i : ℕ) (li : i < n) where
-  pub remove-hop : (l r : ℕ) → v .child (Kid i false) ≡ some l → v .child (Kid i true) ≡ some r → Removed (Dense n) (Dense n) v (unhopAt v i) (v .prefix i)
-  remove-hop l r e f = hop-removed S B i li two
+module _ (n : ℕ) {v : Trie} (S : Sound (Dense n) v) (B : Branchy (Dense n) v) (i : ℕ) (li : i < n) (P : Bits) (ip : v .prefix i ≡ P) where
+  -- it has two children
+  pub withdraw-hop : (l r : ℕ) → v .child (Kid i false) ≡ some l → v .child (Kid i true) ≡ some r → Removed (Dense n) (Dense n) v (unhopAt v i) P
+  withdraw-hop l r e f = rw ip at (hop-removed S B i li two)
     where
       two : (b : Bool) → (j : ℕ) × (v .child (Kid i b) ≡ some j)
       two false = (l, e)
       two true = (r, f)
 
-  pub remove-one : (b : Bool) (j : ℕ) → v .child (Kid i b) ≡ some j → v .child (Kid i (not b)) ≡ none
-      → Removed (Dense n) (Dense (n - 1)) v (fillAt (cutAt v i (some j)) (n - 1) i) (v .prefix i)
-  remove-one b j h e = fill-one n i li (one-removed S B i li b j h e)
+  -- it has one child, j on the side b
+  pub withdraw-one : (b : Bool) (j : ℕ) → v .child (Kid i b) ≡ some j → v .child (Kid i (not b)) ≡ none
+      → Removed (Dense n) (Dense (n - 1)) v (fillAt (cutAt v i (some j)) (n - 1) i) P
+  withdraw-one b j h e = rw ip at (fill-one n i li (one-removed S B i li b j h e))
 
+  -- it is a leaf: in the root cell, in a cell of a route p, or in the cell b of a branch p, whose other child is q
   module _ (left : v .child (Kid i false) ≡ none) (right : v .child (Kid i true) ≡ none) where
     leaf : (b : Bool) → v .child (Kid i b) ≡ none
     leaf false = left
     leaf true = right
 
-    pub remove-root : v .up i ≡ Root → Removed (Dense n) (Dense (n - 1)) v (fillAt (cutAt v i none) (n - 1) i) (v .prefix i)
-    remove-root u = fill-one n i li (leaf-removed S B i li leaf (λ p b z. absurd (not-root (sym z ∙ u))))
+    pub withdraw-root : v .up i ≡ Root → Removed (Dense n) (Dense (n - 1)) v (fillAt (cutAt v i none) (n - 1) i) P
+    withdraw-root u = rw ip at (fill-one n i li (leaf-removed S B i li leaf (λ p b z. absurd (not-root (sym z ∙ u)))))
 
-    pub remove-leaf : (p : ℕ) (b : Bool) (h : ℕ) → v .up i ≡ Kid p b → v .hop p ≡ some h → Removed (Dense n) (Dense (n - 1)) v (fillAt (cutAt v i none) (n - 1) i) (v .prefix i)
-    remove-leaf p b h u e = fill-one n i li (leaf-removed S B i li leaf (λ q x z f. Option·none-ne-some h (sym f ∙ ap (v .hop) (kid-slot (sym z ∙ u)) ∙ e)))
+    pub withdraw-leaf : (p : ℕ) (b : Bool) (h : ℕ) → v .up i ≡ Kid p b → v .hop p ≡ some h → Removed (Dense n) (Dense (n - 1)) v (fillAt (cutAt v i none) (n - 1) i) P
+    withdraw-leaf p b h u e = rw ip at (fill-one n i li (leaf-removed S B i li leaf (λ q x z f. Option·none-ne-some h (sym f ∙ ap (v .hop) (kid-slot (sym z ∙ u)) ∙ e))))
 
-    pub remove-pair : (H : ℕ) → v .hop i ≡ some H → (p : ℕ) (b : Bool) → v .up i ≡ Kid p b → v .hop p ≡ none → (q : ℕ) → v .child (Kid p (not b)) ≡ some q
-        → Removed (Dense n) (Dense (n - 2)) v (fillBoth (cutAt (cutAt v i none) p (some q)) n i p) (v .prefix i)
-    remove-pair H ih p b u ph q pq =
-        fill-two n i p li (parent-live S B i li leaf H ih p b u ph q pq) (parent-other S B i li leaf H ih p b u ph q pq) (pair-removed S B i li leaf H ih p b u ph q pq)
+    pub withdraw-pair : (H : ℕ) → v .hop i ≡ some H → (p : ℕ) (b : Bool) → v .up i ≡ Kid p b → v .hop p ≡ none → (q : ℕ) → v .child (Kid p (not b)) ≡ some q
+        → Removed (Dense n) (Dense (n - 2)) v (fillBoth (cutAt (cutAt v i none) p (some q)) n i p) P
+    withdraw-pair H ih p b u ph q pq =
+        rw ip at (fill-two n i p li (parent-live S B i li leaf H ih p b u ph q pq) (parent-other S B i li leaf H ih p b u ph q pq) (pair-removed S B i li leaf H ih p b u ph q pq))

@@ -3,7 +3,7 @@ use mathlib.Core.List.{[], _∷_}
 use mathlib.Core.Option.{Option, none, some}
 use Prim.Native.Nat.{ℕ, zero, suc}
 use Rattle.prefix.specs.Bits.{Bits}
-use Rattle.model.specs.Routes.{Route, Table}
+use Rattle.model.specs.Routes.{Table}
 use Rattle.trie.specs.Trie.{Trie}
 
 unfoldable pub andRoute : Bits → Option ℕ → Table → Table

@@ -1,6 +1,6 @@
 -- "The descent stops at the last node that contains the address and yields that place, or that there is none." The descent from the
 -- root by the bits of X, which is an address, or a prefix that is looked for. Assumes nothing.
-use mathlib.Core.Bool.{Bool, true, false, cond}
+use mathlib.Core.Bool.{true, false, cond}
 use mathlib.Core.Option.{Option, none, some}
 use Prim.Native.Nat.{ℕ, zero, suc}
 use lib.ListN.{length, getD}
