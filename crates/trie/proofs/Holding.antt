@@ -15,7 +15,7 @@ use Rattle.prefix.proofs.Booleans.{is-false, clash}
 use Rattle.prefix.proofs.Tests.{same-eq, eq-same, not-⊑}
 use Rattle.model.specs.Lists.{_∈_, p-nil, p-cons}
 use Rattle.model.specs.Routes.{Route, Table, announce, withdraw, Update, held, withAnnounced, updated}
-use Rattle.model.specs.Demands.{Distinct, SameRoutes, Standing, announced, kept}
+use Rattle.model.specs.Demands.{Distinct, SameRoutes, Standing, announced, stood}
 use Rattle.model.proofs.ListLaws.{in-any, any-in}
 use Rattle.model.proofs.Match.{one-each}
 use Rattle.model.proofs.Updates.{in-updated, updated-in, updated-distinct, new-in}
@@ -129,7 +129,7 @@ module _ {m m′ : ℕ} {v w : Trie} {P : Bits} where
 
       from : (R : Route) → Standing (routesOf v m) u R → R ∈ routesOf w m′
       from R (announced h e z) = let y : H ≡ h = cc in Memᴰ·cast z (rw y at (held-in w m′ (k .new)))
-      from R (kept i n) = held-in w m′ (k .keep (in-held v m R i) n)
+      from R (stood i n) = held-in w m′ (k .keep (in-held v m R i) n)
 
   pub removed-updated : Removed (Dense m) (Dense m′) v w P → SameRoutes (routesOf w m′) (updated (routesOf v m) (record { prefix = P; action = withdraw }))
   removed-updated k = record { to = λ R i. let r = k .inv (in-held w m′ R i) in in-updated (routesOf v m) u R (held-in v m (r .0)) (r .1); from = λ R i. from R (updated-in (routesOf v m) u R i) }
@@ -139,7 +139,7 @@ module _ {m m′ : ℕ} {v w : Trie} {P : Bits} where
 
       from : (R : Route) → Standing (routesOf v m) u R → R ∈ routesOf w m′
       from R (announced h e z) = absurd (let y : _≡_ {A = ℕ} 0 1 = cc in omega arith)
-      from R (kept i n) = held-in w m′ (k .keep (in-held v m R i) n)
+      from R (stood i n) = held-in w m′ (k .keep (in-held v m R i) n)
 
 -- ---- how many there are then
 
@@ -147,13 +147,13 @@ module _ (t : Table) (d : Distinct t) (P : Bits) where
   rest : Table
   rest = updated t (record { prefix = P; action = withdraw })
 
-  stood : (R : Route) → Standing t (record { prefix = P; action = withdraw }) R → (R ∈ t) × (¬ (R .prefix ≡ P))
-  stood R (announced h e z) = absurd (let y : _≡_ {A = ℕ} 0 1 = cc in omega arith)
-  stood R (kept i n) = (i, n)
+  still : (R : Route) → Standing t (record { prefix = P; action = withdraw }) R → (R ∈ t) × (¬ (R .prefix ≡ P))
+  still R (announced h e z) = absurd (let y : _≡_ {A = ℕ} 0 1 = cc in omega arith)
+  still R (stood i n) = (i, n)
 
   rest-in : (R : Route) → R ∈ rest → (R ∈ t) × (¬ (R .prefix ≡ P))
   unfolding rest
-  rest-in R i = stood R (updated-in t (record { prefix = P; action = withdraw }) R i)
+  rest-in R i = still R (updated-in t (record { prefix = P; action = withdraw }) R i)
 
   in-rest : (R : Route) → R ∈ t → ¬ (R .prefix ≡ P) → R ∈ rest
   unfolding rest

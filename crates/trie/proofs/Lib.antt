@@ -15,3 +15,4 @@ pub mod Counting
 pub mod Carrying
 pub mod NodeSet
 pub mod Looking
+mod Samples

@@ -9,7 +9,7 @@ use lib.Dec.{eqb, ltb}
 use Rattle.prefix.specs.Bits.{Bits}
 use Rattle.trie.specs.Trie.{Cell, Kid, Cell-discrete, Trie}
 
-pub cell-dec : (c e : Cell) → Dec (c ≡ e)
+unfoldable pub cell-dec : (c e : Cell) → Dec (c ≡ e)
 cell-dec = Cell-discrete ℕ-discrete Bool-discrete
 
 -- f, but a at k

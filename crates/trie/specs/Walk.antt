@@ -29,7 +29,7 @@ better (some h) i best = some i
 unfoldable pub follow : Trie → Bits → ℕ → Option ℕ
 follow v X i = cond (ltb (length (v .prefix i)) (length X)) (v .child (Kid i (getD X (length (v .prefix i)) false))) none
 
--- a step at the node i: it contains X and the descent goes on, or it stops there
+-- a step at the node i: it contains X and the descent goes on from it, or the descent stops
 unfoldable pub walk : Trie → Bits → ℕ → Option ℕ → Option ℕ → Option ℕ → ℕ → Stop
 walk v X zero cursor last best examined = record { last = last; beyond = none; best = best; examined = examined }
 walk v X (suc fuel) none last best examined = record { last = last; beyond = none; best = best; examined = examined }
@@ -38,7 +38,7 @@ walk v X (suc fuel) (some i) last best examined = elim (contains (v .prefix i) X
   | false ↦ record { last = last; beyond = some i; best = best; examined = suc examined }
 ]
 
--- from the root; no descent takes more steps than that
+-- from the root; a sound trie has no descent of more steps
 unfoldable pub descent : Trie → Bits → Stop
 descent v X = walk v X (suc (length X)) (v .child Root) none none 0
 
@@ -49,8 +49,8 @@ unfoldable pub cellAfter : Trie → Bits → Option ℕ → Cell
 cellAfter v X none = Root
 cellAfter v X (some i) = Kid i (getD X (length (v .prefix i)) false)
 
--- the routes' part of "n is the largest of: M's length; 1 + Common(X, R) for each route R that does not contain X": by the node beyond
--- the last one, or by the last one, which is longer by one bit than itself where it has children
+-- "n is the largest of: M's length; 1 + Common(X, R) for each route R that does not contain X": one more than Common(X, P) for the
+-- prefix P of the node beyond, if there is one; else the length of the last node, and one more if it has a child.
 unfoldable pub lengthAt : Trie → ℕ → Option ℕ → Option ℕ → ℕ
 lengthAt v i none none = length (v .prefix i)
 lengthAt v i none (some r) = suc (length (v .prefix i))
