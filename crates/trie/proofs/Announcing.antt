@@ -17,9 +17,9 @@ use Rattle.trie.specs.Trie.{Cell, Root, Kid, Trie, Inside, Fits, Points,
 use Rattle.trie.specs.Walk.{descent, cellAfter}
 use Rattle.trie.specs.Updates.{setHop, setChild, setUp, setNode, setSlot, hopAt, leafAt, onSide, spliceAt, forkAt}
 use Rattle.trie.proofs.Next.{next-below, below-next}
-use Rattle.trie.proofs.Descent.{inject}
 use Rattle.trie.proofs.Stores.{upd-same, upd-other, set-hop, set-hop-other, slot-cell, slot-new, slot-old, fresh-cell}
 use Rattle.trie.proofs.Walking.{at-last, Landed}
+use Rattle.trie.proofs.Hops.{hop-sound, hop-kept, hop-inv}
 use Rattle.trie.proofs.Growing.{Joined, Grown, grown-sound, grown-branchy, branchy-old, full-old, held-old, held-inv, grown-put}
 
 -- one more slot of a table
@@ -35,33 +35,20 @@ dense-joined m = record { fresh = λ h. omega arith; old = λ a l. omega arith; 
 pub put-hop : {live : ℕ → Type 0} {v : Trie} → Sound live v → Branchy live v → (i : ℕ) (P : Bits) (H : ℕ) → live i → v .prefix i ≡ P → Put live live v (hopAt v i H) P H
 unfolding hopAt setHop
 put-hop {live} {v} S B i P H l e = record {
-  sound = record {
-    points = λ c j ci h. let p = S .points c j ci h in record { is-live = p .is-live; back = p .back; fits = fits c (v .prefix j) (p .fits) };
-    owned = λ j lj. let o = S .owned j lj in record { inside = o .inside; child = o .child };
-  };
+  sound = hop-sound S i (some H);
   branchy = λ a la h b. B a la (hop a h (ℕ-discrete a i)) b;
   new = record { slot = i; is-live = l; is-prefix = e; is-hop = set-hop v i (some H) };
-  keep = λ h ne. record { slot = h .slot; is-live = h .is-live; is-prefix = h .is-prefix; is-hop = set-hop-other v i (some H) (h .slot) (λ z. ne (sym (h .is-prefix) ∙ ap (v .prefix) z ∙ e)) ∙ h .is-hop };
-  inv = λ h. back h (ℕ-discrete (h .slot) i);
+  keep = λ r n. hop-kept S i (some H) r (λ z. n (z ∙ e));
+  inv = λ r. inv (hop-inv S i (some H) l r);
 }
   where
-    w : Trie
-    w = hopAt v i H
-
-    fits : (c : Cell) (p : Bits) → Fits v c p → Fits w c p
-    fits Root p f = tt
-    fits (Kid a b) p f = f
-
-    hop : (a : ℕ) → w .hop a ≡ none → Dec (a ≡ i) → v .hop a ≡ none
-    hop a h (yes z) = absurd (Option·some-ne-none H (sym (set-hop v i (some H)) ∙ ap (w .hop) (sym z) ∙ h))
+    hop : (a : ℕ) → hopAt v i H .hop a ≡ none → Dec (a ≡ i) → v .hop a ≡ none
+    hop a h (yes z) = absurd (Option·some-ne-none H (sym (set-hop v i (some H)) ∙ ap (hopAt v i H .hop) (sym z) ∙ h))
     hop a h (no n) = sym (set-hop-other v i (some H) a n) ∙ h
 
-    back : {p : Bits} {h : ℕ} → (r : Held live w p h) → Dec (r .slot ≡ i) → ((p ≡ P) × (h ≡ H)) ⊎ (Held live v p h × (¬ (p ≡ P)))
-    back {p} {h} r (yes z) = let q = set-hop v i (some H) in let s = r .is-hop in inl (sym (r .is-prefix) ∙ ap (v .prefix) z ∙ e, cc)
-    back {p} {h} r (no n) = inr (
-      record { slot = r .slot; is-live = r .is-live; is-prefix = r .is-prefix; is-hop = sym (set-hop-other v i (some H) (r .slot) n) ∙ r .is-hop },
-      λ y. n (inject S (r .slot) i (r .is-live) l (r .is-prefix ∙ y ∙ sym e)),
-    )
+    inv : {p : Bits} {h : ℕ} → ((p ≡ v .prefix i) × (some H ≡ some h)) ⊎ (Held live v p h × (¬ (p ≡ v .prefix i))) → ((p ≡ P) × (h ≡ H)) ⊎ (Held live v p h × (¬ (p ≡ P)))
+    inv {p} {h} (inl (x, y)) = inl (x ∙ e, cc)
+    inv (inr (r, n)) = inr (r, λ z. n (z ∙ sym e))
 
 -- ---- one new node
 
@@ -82,10 +69,7 @@ on-side-other true j = refl
 on-side-other false j = refl
 
 module _ {live live′ : ℕ → Type 0} {n : ℕ} (J : Joined live live′ n) (v : Trie) (c : Cell) (ci : Inside live c) where
-  -- the cell is none of n's
-  apart : (b : Bool) → ¬ (c ≡ Kid n b)
-  apart = fresh-cell live n (J .fresh) c ci
-
+  -- a cell in use is none of n's
   other : (e : Cell) → Inside live e → (b : Bool) → ¬ (e ≡ Kid n b)
   other = fresh-cell live n (J .fresh)
 
@@ -104,7 +88,7 @@ module _ {live live′ : ℕ → Type 0} {n : ℕ} (J : Joined live live′ n) (
     up-new = upd-same _ _ _ _ n refl;
     child-old = λ e i z. slot-old v n Q (some h) c c (λ b. none) e (other e i) z;
     child-cell = slot-cell v n Q (some h) c c (λ b. none);
-    child-new = λ b j e. absurd (Option·none-ne-some j (sym (slot-new v n Q (some h) c c (λ b. none) apart b) ∙ e));
+    child-new = λ b j e. absurd (Option·none-ne-some j (sym (slot-new v n Q (some h) c c (λ b. none) (other c ci) b) ∙ e));
     child-kept = λ j e. absurd (Option·none-ne-some j (sym empty ∙ e));
   }
 
@@ -120,8 +104,8 @@ module _ {live live′ : ℕ → Type 0} {n : ℕ} (J : Joined live live′ n) (
     up-new = upd-other _ _ _ _ n (λ z. ne j (p .is-live) (sym z)) ∙ upd-same _ _ _ _ n refl;
     child-old = λ e i z. slot-old v n Q h c c (onSide d j) e (other e i) z;
     child-cell = slot-cell v n Q h c c (onSide d j);
-    child-new = λ b a e. new b a (on-side-some d j b a (sym (slot-new v n Q h c c (onSide d j) apart b) ∙ e));
-    child-kept = λ a e. (d, slot-new v n Q h c c (onSide d j) apart d ∙ on-side d j ∙ sym full ∙ e);
+    child-new = λ b a e. new b a (on-side-some d j b a (sym (slot-new v n Q h c c (onSide d j) (other c ci) b) ∙ e));
+    child-kept = λ a e. (d, slot-new v n Q h c c (onSide d j) (other c ci) d ∙ on-side d j ∙ sym full ∙ e);
   }
     where
       p : Points live v c j

@@ -3,6 +3,7 @@ pub mod Descent
 pub mod Walking
 pub mod Meeting
 pub mod Stores
+pub mod Hops
 pub mod Growing
 pub mod Announcing
 pub mod Cutting

@@ -1,12 +1,12 @@
 -- Routes announced and withdrawn by computing. Assumes nothing.
 use mathlib.Core.Path.{_≡_, refl}
-use mathlib.Core.Bool.{true, false, Bool-discrete}
+use mathlib.Core.Bool.{true, false}
 use mathlib.Core.List.{[], _∷_}
 use mathlib.Core.Option.{none, some}
 use native.Mathlib.Decide.{ℕ-discrete}
-use Rattle.prefix.specs.Prefix.{contains, common}
-use Rattle.trie.specs.Trie.{Root, Kid, Cell-discrete, Trie}
-use Rattle.trie.specs.Walk.{better, follow, walk, descent, lengthAt, lengthFrom, newFrom}
+use Rattle.prefix.specs.Prefix.{contains}
+use Rattle.trie.specs.Trie.{Root, Kid, Trie}
+use Rattle.trie.specs.Walk.{better, follow, walk, descent}
 use Rattle.trie.specs.Updates.{cell-dec, upd, setNode, setChild, setUp, setSlot, updOf, setUpOf, leafAt, onSide, spliceAt, forkAt, cutAt, moveAt, fillAt, fillBoth}
 use Rattle.trie.specs.Routes.{andRoute, routesOf}
 

@@ -10,10 +10,10 @@ use native.Mathlib.Omega.{arith}
 use borrow.Author.Tests.{eq-eqb, ne-eqb, lt-ltb, le-ltb}
 use Rattle.prefix.specs.Bits.{Bits}
 use Rattle.prefix.proofs.Booleans.{bool-other, not-ne}
-use Rattle.trie.specs.Trie.{Cell, Root, Kid, Trie, Fits, Points, Sound, Branchy, Dense, Held, Removed}
+use Rattle.trie.specs.Trie.{Root, Kid, Trie, Points, Sound, Branchy, Dense, Held, Removed}
 use Rattle.trie.specs.Updates.{upd, setHop, setChild, setUp, setNode, setSlot, setUpOf, unhopAt, cutAt, moveAt, fillAt, fillBoth}
-use Rattle.trie.proofs.Descent.{inject}
-use Rattle.trie.proofs.Stores.{upd-same, upd-other, set-hop, set-hop-other, upd-of-same, upd-of-other, kid-slot, kid-side, not-root, fresh-cell, slot-cell, slot-new, slot-old}
+use Rattle.trie.proofs.Stores.{upd-same, upd-other, set-hop-other, upd-of-same, upd-of-other, kid-slot, kid-side, not-root, fresh-cell, slot-cell, slot-new, slot-old}
+use Rattle.trie.proofs.Hops.{hop-sound, hop-kept, hop-inv}
 use Rattle.trie.proofs.Cutting.{Cut, cut-sound, cut-held, cut-held-inv, cut-full}
 use Rattle.trie.proofs.Moving.{Renamed, renamed-sound, renamed-held, renamed-held-inv, renamed-branchy, agrees-renamed, agrees-self, Moved, ren, moved-renamed}
 
@@ -199,32 +199,19 @@ module _ {live : ℕ → Type 0} {v : Trie} (S : Sound live v) (B : Branchy live
   pub hop-removed : ((b : Bool) → (j : ℕ) × (v .child (Kid i b) ≡ some j)) → Removed live live v (unhopAt v i) (v .prefix i)
   unfolding unhopAt setHop
   hop-removed two = record {
-    sound = record {
-      points = λ c j ci h. let p = S .points c j ci h in record { is-live = p .is-live; back = p .back; fits = fits c (v .prefix j) (p .fits) };
-      owned = λ j lj. let o = S .owned j lj in record { inside = o .inside; child = o .child };
-    };
+    sound = hop-sound S i none;
     branchy = λ a la h b. branchy a la h b (ℕ-discrete a i);
-    keep = λ h ne. record { slot = h .slot; is-live = h .is-live; is-prefix = h .is-prefix; is-hop = set-hop-other v i none (h .slot) (λ z. ne (sym (h .is-prefix) ∙ ap (v .prefix) z)) ∙ h .is-hop };
-    inv = λ h. back h (ℕ-discrete (h .slot) i);
+    keep = λ r n. hop-kept S i none r n;
+    inv = λ r. inv (hop-inv S i none li r);
   }
     where
-      w : Trie
-      w = unhopAt v i
-
-      fits : (c : Cell) (p : Bits) → Fits v c p → Fits w c p
-      fits Root p f = tt
-      fits (Kid a b) p f = f
-
-      branchy : (a : ℕ) → live a → w .hop a ≡ none → (b : Bool) → Dec (a ≡ i) → (j : ℕ) × (v .child (Kid a b) ≡ some j)
+      branchy : (a : ℕ) → live a → unhopAt v i .hop a ≡ none → (b : Bool) → Dec (a ≡ i) → (j : ℕ) × (v .child (Kid a b) ≡ some j)
       branchy a la h b (yes z) = rw z (two b)
       branchy a la h b (no n) = B a la (sym (set-hop-other v i none a n) ∙ h) b
 
-      back : {p : Bits} {h : ℕ} → (r : Held live w p h) → Dec (r .slot ≡ i) → Held live v p h × (¬ (p ≡ v .prefix i))
-      back {p} {h} r (yes z) = absurd (Option·none-ne-some h (sym (set-hop v i none) ∙ ap (w .hop) (sym z) ∙ r .is-hop))
-      back {p} {h} r (no n) = (
-        record { slot = r .slot; is-live = r .is-live; is-prefix = r .is-prefix; is-hop = sym (set-hop-other v i none (r .slot) n) ∙ r .is-hop },
-        λ y. n (inject S (r .slot) i (r .is-live) li (r .is-prefix ∙ y)),
-      )
+      inv : {p : Bits} {h : ℕ} → ((p ≡ v .prefix i) × (none ≡ some h)) ⊎ (Held live v p h × (¬ (p ≡ v .prefix i))) → Held live v p h × (¬ (p ≡ v .prefix i))
+      inv {h} (inl e) = absurd (Option·none-ne-some h (e .1))
+      inv (inr r) = r
 
   module _ (kid : Option ℕ) (k : Cut live (Without live i) v (cutAt v i kid) i kid) where
     cut-removed : Branchy (Without live i) (cutAt v i kid) → Removed live (Without live i) v (cutAt v i kid) (v .prefix i)
