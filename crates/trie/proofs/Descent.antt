@@ -63,6 +63,10 @@ path-step v X d k h = go (path v X d) refl h
     go (some i) e h = on i e (contains (v .prefix i) X) refl h
 
 module _ {live : ℕ → Type 0} {v : Trie} (S : Sound live v) where
+  -- a node's parent is live
+  pub up-live : (i p : ℕ) (b : Bool) → live i → v .up i ≡ Kid p b → live p
+  up-live i p b l u = rw u at (S .owned i l .inside)
+
   -- every live node whose prefix X has is on the path
   reached : (X : Bits) (n i : ℕ) → live i → v .prefix i ⊑ X → length (v .prefix i) < n → (d : ℕ) × (path v X d ≡ some i)
   unfolding path onward

@@ -27,6 +27,14 @@ module _ {I A : Type 0} (dec : (x y : I) → Dec (x ≡ y)) (f : I → A) (k : I
 
 -- ---- one store
 
+pub set-node : (v : Trie) (k : ℕ) (p : Bits) (h : Option ℕ) → (setNode v k p h .prefix k ≡ p) × (setNode v k p h .hop k ≡ h)
+unfolding setNode
+set-node v k p h = (upd-same _ _ _ _ k refl, upd-same _ _ _ _ k refl)
+
+pub set-node-other : (v : Trie) (k : ℕ) (p : Bits) (h : Option ℕ) (i : ℕ) → ¬ (i ≡ k) → (setNode v k p h .prefix i ≡ v .prefix i) × (setNode v k p h .hop i ≡ v .hop i)
+unfolding setNode
+set-node-other v k p h i n = (upd-other _ _ _ _ i n, upd-other _ _ _ _ i n)
+
 pub set-hop : (v : Trie) (k : ℕ) (h : Option ℕ) → setHop v k h .hop k ≡ h
 unfolding setHop
 set-hop v k h = upd-same _ _ _ _ k refl

@@ -12,6 +12,7 @@ use Rattle.prefix.specs.Bits.{Bits}
 use Rattle.prefix.proofs.Booleans.{bool-other, not-ne}
 use Rattle.trie.specs.Trie.{Root, Kid, Trie, Points, Sound, Branchy, Dense, Held, Removed}
 use Rattle.trie.specs.Updates.{upd, setHop, setChild, setUp, setNode, setSlot, setUpOf, unhopAt, cutAt, moveAt, fillAt, fillBoth}
+use Rattle.trie.proofs.Descent.{up-live}
 use Rattle.trie.proofs.Stores.{upd-same, upd-other, set-hop-other, upd-of-same, upd-of-other, kid-slot, kid-side, not-root, fresh-cell, slot-cell, slot-new, slot-old}
 use Rattle.trie.proofs.Hops.{hop-sound, hop-kept, hop-inv}
 use Rattle.trie.proofs.Cutting.{Cut, cut-sound, cut-held, cut-held-inv, cut-full}
@@ -248,17 +249,14 @@ module _ {live : ℕ → Type 0} {v : Trie} (S : Sound live v) (B : Branchy live
 
     -- its parent p is a branch, which goes too: p's other child q takes p's cell
     module _ (H : ℕ) (ih : v .hop i ≡ some H) (p : ℕ) (b : Bool) (u : v .up i ≡ Kid p b) (ph : v .hop p ≡ none) (q : ℕ) (pq : v .child (Kid p (not b)) ≡ some q) where
-      pub parent-other : ¬ (i ≡ p)
+      parent-other : ¬ (i ≡ p)
       parent-other z = Option·none-ne-some H (sym ph ∙ ap (v .hop) (sym z) ∙ ih)
-
-      pub parent-live : live p
-      parent-live = rw u at (S .owned i li .inside)
 
       S₁ : Sound (Without live i) (cutAt v i none)
       S₁ = cut-sound S li c₁
 
       lp : Without live i p
-      lp = (parent-live, λ z. parent-other (sym z))
+      lp = (up-live S i p b li u, λ z. parent-other (sym z))
 
       p-none : (cutAt v i none) .child (Kid p b) ≡ none
       p-none = rw u at (c₁ .child-cell)
@@ -322,4 +320,4 @@ module _ (n : ℕ) {v : Trie} (S : Sound (Dense n) v) (B : Branchy (Dense n) v) 
     pub withdraw-pair : (H : ℕ) → v .hop i ≡ some H → (p : ℕ) (b : Bool) → v .up i ≡ Kid p b → v .hop p ≡ none → (q : ℕ) → v .child (Kid p (not b)) ≡ some q
         → Removed (Dense n) (Dense (n - 2)) v (fillBoth (cutAt (cutAt v i none) p (some q)) n i p) P
     withdraw-pair H ih p b u ph q pq =
-        rw ip at (fill-two n i p li (parent-live S B i li leaf H ih p b u ph q pq) (parent-other S B i li leaf H ih p b u ph q pq) (pair-removed S B i li leaf H ih p b u ph q pq))
+        rw ip at (fill-two n i p li (up-live S i p b li u) (parent-other S B i li leaf H ih p b u ph q pq) (pair-removed S B i li leaf H ih p b u ph q pq))
