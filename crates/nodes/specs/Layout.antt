@@ -1,0 +1,69 @@
+-- The words of a table store, and the trie that they spell. Header: word 0 is the limit, word 1 the nodes in use, word 2 the routes
+-- held. Node p, for p from 1 to the nodes in use, starts at word 1,016 + 8 p: address, length, mark (hop + 1, or 0 for a branch),
+-- left, right, up. A cell is a place for a node number: cell 0 is the root's, at word 1,019, and cell 2 p + b the side b of node p.
+-- The trie numbers its slots from 0: node p is slot p - 1. Assumes nothing.
+use mathlib.Core.Bool.{Bool}
+use mathlib.Core.List.{List}
+use mathlib.Core.Option.{Option, none, some}
+use Prim.Native.Nat.{ℕ, zero, suc, _+_, _-_, _*_, _/_, _%_, _≤_}
+use lib.ListN.{length, getD}
+use Rattle.prefix.specs.Bits.{one?, digit}
+use Rattle.prefix.specs.Prefix.{prefixOf}
+use Rattle.trie.specs.Trie.{Cell, Root, Kid, Trie}
+use Rattle.sizes.specs.Sizes.{LegalLimit, tableNeed}
+
+-- ---- where a word is
+
+abbrev pub nodeWord : ℕ → ℕ → ℕ
+nodeWord p field = 1016 + 8 * p + field
+
+abbrev pub cellWord : ℕ → ℕ
+cellWord cell = 1016 + 8 * (cell / 2) + 3 + cell % 2
+
+-- ---- what it says
+
+abbrev pub word : List ℕ → ℕ → ℕ
+word w i = getD w i 0
+
+abbrev pub limitOf : List ℕ → ℕ
+limitOf w = word w 0
+
+abbrev pub nodesOf : List ℕ → ℕ
+nodesOf w = word w 1
+
+abbrev pub routeCount : List ℕ → ℕ
+routeCount w = word w 2
+
+-- 0 is none, and p is what has the number p - 1: a node by its number, and a hop by its mark
+unfoldable pub numbered : ℕ → Option ℕ
+numbered zero = none
+numbered (suc k) = some k
+
+-- the cell of a number. No cell has the number 1
+unfoldable pub cellOf : ℕ → Cell
+cellOf zero = Root
+cellOf (suc q) = Kid (suc q / 2 - 1) (one? (suc q % 2))
+
+unfoldable pub childIn : List ℕ → Cell → Option ℕ
+childIn w Root = numbered (word w (cellWord 0))
+childIn w (Kid k b) = numbered (word w (nodeWord (suc k) (3 + digit b)))
+
+unfoldable pub trieOf : List ℕ → Trie
+trieOf w = record {
+  prefix = λ k. prefixOf 32 (word w (nodeWord (suc k) 0)) (word w (nodeWord (suc k) 1));
+  hop = λ k. numbered (word w (nodeWord (suc k) 2));
+  child = childIn w;
+  up = λ k. cellOf (word w (nodeWord (suc k) 5));
+}
+
+-- ---- a header that fits its store
+
+pub record Shaped (w : List ℕ) : Type 0 where
+  pub legal : LegalLimit (limitOf w)
+  pub enough : tableNeed (limitOf w) ≤ length w
+  pub nodes-fit : nodesOf w ≤ 2 * limitOf w
+  pub routes-fit : routeCount w ≤ limitOf w
+
+-- the words of node p are in the store
+abbrev pub Room : List ℕ → ℕ → Type 0
+Room w p = 1016 + 8 * p + 8 ≤ length w
