@@ -2,10 +2,10 @@
 -- held. Node p, for p from 1 to the nodes in use, starts at word 1,016 + 8 p: address, length, mark (hop + 1, or 0 for a branch),
 -- left, right, up. A cell is a place for a node number: cell 0 is the root's, at word 1,019, and cell 2 p + b the side b of node p.
 -- The trie numbers its slots from 0: node p is slot p - 1. Assumes nothing.
-use mathlib.Core.Bool.{Bool}
+use mathlib.Core.Path.{_≡_}
 use mathlib.Core.List.{List}
 use mathlib.Core.Option.{Option, none, some}
-use Prim.Native.Nat.{ℕ, zero, suc, _+_, _-_, _*_, _/_, _%_, _≤_}
+use Prim.Native.Nat.{ℕ, zero, suc, _+_, _-_, _*_, _/_, _%_, _≤_, _<_}
 use lib.ListN.{length, getD}
 use Rattle.prefix.specs.Bits.{one?, digit}
 use Rattle.prefix.specs.Prefix.{prefixOf}
@@ -44,6 +44,11 @@ unfoldable pub cellOf : ℕ → Cell
 cellOf zero = Root
 cellOf (suc q) = Kid (suc q / 2 - 1) (one? (suc q % 2))
 
+-- and the number of a cell
+unfoldable pub cellNumber : Cell → ℕ
+cellNumber Root = 0
+cellNumber (Kid k b) = 2 * suc k + digit b
+
 unfoldable pub childIn : List ℕ → Cell → Option ℕ
 childIn w Root = numbered (word w (cellWord 0))
 childIn w (Kid k b) = numbered (word w (nodeWord (suc k) (3 + digit b)))
@@ -67,3 +72,8 @@ pub record Shaped (w : List ℕ) : Type 0 where
 -- the words of node p are in the store
 abbrev pub Room : List ℕ → ℕ → Type 0
 Room w p = 1016 + 8 * p + 8 ≤ length w
+
+-- what the trie does not show of the nodes 1 to m: a length is at most 32, and an up is the number of a cell
+pub record Plain (w : List ℕ) (m : ℕ) : Type 0 where
+  pub short : (p : ℕ) → 0 < p → p ≤ m → word w (nodeWord p 1) ≤ 32
+  pub celled : (p : ℕ) → 0 < p → p ≤ m → ¬ (word w (nodeWord p 5) ≡ 1)
