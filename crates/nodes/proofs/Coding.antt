@@ -20,6 +20,9 @@ pub some-numbered : (p k : ℕ) → p ≡ suc k → numbered p ≡ some k
 unfolding numbered
 some-numbered p k e = rw e
 
+pub numbered-node : (p : ℕ) → 0 < p → numbered p ≡ some (p - 1)
+numbered-node p h = some-numbered p (p - 1) (omega arith)
+
 pub numbered-none : (p : ℕ) → numbered p ≡ none → p ≡ 0
 unfolding numbered
 numbered-none zero e = refl

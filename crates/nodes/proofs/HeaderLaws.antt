@@ -13,7 +13,7 @@ use Rattle.sizes.specs.declared.Setup.the-variants.{Done}
 use Rattle.sizes.proofs.SizeLaws.{setup-done, enough-store}
 use Rattle.nodes.specs.Layout.{limitOf, nodesOf, routeCount, Shaped}
 
--- an answer by a key of the two refusals is not set-up's first
+-- the key of an accepted set-up, 0, is neither of the refusals'
 pub no-key : ¬ ((_≡_ {A = ℕ} 0 1) ⊎ (_≡_ {A = ℕ} 0 2))
 no-key (inl e) = omega arith
 no-key (inr e) = omega arith

@@ -47,8 +47,8 @@ module _ (w : List ℕ) where
     unfolding trieOf
     up-word = rw slot
 
-    pub side-number : (b : ℕ) → b < 2 → numbered (word w (nodeWord p (3 + b))) ≡ trieOf w .child (Kid (p - 1) (one? b))
-    side-number b l =
+    pub side-child : (b : ℕ) → b < 2 → numbered (word w (nodeWord p (3 + b))) ≡ trieOf w .child (Kid (p - 1) (one? b))
+    side-child b l =
         rw (side-word p b l, cell-side p b pos l) at (child-word (2 * p + b) (λ z. omega arith))
 
 -- the node n stands in slot k
@@ -64,8 +64,8 @@ unfolding nodeIn
 node-is w p pos = record {
   prefix = prefix-words w p pos;
   hop = hop-word w p pos;
-  left = side-number w p pos 0 (omega arith);
-  right = side-number w p pos 1 (omega arith);
+  left = side-child w p pos 0 (omega arith);
+  right = side-child w p pos 1 (omega arith);
   up = up-word w p pos;
 }
 
