@@ -1,3 +1,5 @@
 pub mod Nodes
 pub mod Shape
 pub mod Walking
+pub mod Rings
+pub mod Orders
