@@ -3,3 +3,4 @@ pub mod Shape
 pub mod Walking
 pub mod Rings
 pub mod Orders
+pub mod Using

@@ -1,6 +1,6 @@
 -- The ring of use as a list of slots: what taking a slot out, putting one in front and renumbering one make of it. Assumes nothing.
 use mathlib.Core.Path.{_≡_, refl, sym, ap, _∙_, subst}
-use mathlib.Core.List.{List, [], _∷_, map, List·Memᴰ, List·Memᴰ·head, List·Memᴰ·tail, List·Memᴰ·not-nil, List·Memᴰ·cases-cons, Memᴰ·of-map}
+use mathlib.Core.List.{List, [], _∷_, _++_, map, List·Memᴰ, List·Memᴰ·head, List·Memᴰ·tail, List·Memᴰ·not-nil, List·Memᴰ·cases-cons, Memᴰ·of-map}
 use mathlib.Core.Logic.{_⊎_, inl, inr}
 use Prim.Native.Nat.{ℕ, zero, suc}
 use native.Mathlib.Decide.{ℕ-discrete}
@@ -151,6 +151,24 @@ without-length k (x ∷ l) m = go (ℕ-discrete x k) (List·Memᴰ·cases-cons m
     go (yes e) h rec = refl
     go (no n) (inl e) rec = absurd (n (sym e))
     go (no n) (inr h) rec = ap suc (rec h)
+
+-- a list less its last slot
+pub mem-last : (k : ℕ) (l : List ℕ) → List·Memᴰ k (l ++ (k ∷ []))
+mem-last k [] = List·Memᴰ·head refl
+mem-last k (x ∷ l) = List·Memᴰ·tail (mem-last k l)
+
+pub without-last : (k : ℕ) (l : List ℕ) → Distinct (l ++ (k ∷ [])) → without k (l ++ (k ∷ [])) ≡ l
+unfolding without
+without-last k [] d = go (ℕ-discrete k k)
+  where
+    go : (t : Dec (k ≡ k)) → _≡_ {A = List ℕ} (elim t [ yes e ↦ [] | no n ↦ k ∷ [] ]) []
+    go (yes e) = refl
+    go (no n) = absurd (n refl)
+without-last k (x ∷ l) d = go (ℕ-discrete x k) (without-last k l (d .1))
+  where
+    go : (t : Dec (x ≡ k)) → without k (l ++ (k ∷ [])) ≡ l → _≡_ {A = List ℕ} (elim t [ yes e ↦ l ++ (k ∷ []) | no n ↦ x ∷ without k (l ++ (k ∷ [])) ]) (x ∷ l)
+    go (yes e) h = absurd (d .0 (subst (λ (y : ℕ). List·Memᴰ y (l ++ (k ∷ []))) (sym e) (mem-last k l)))
+    go (no n) h = ap (λ (q : List ℕ). x ∷ q) h
 
 -- ---- slot k is taken out
 

@@ -1,0 +1,136 @@
+-- An entry is used, or gets another hop; and the entry that was used least recently. Assumes nothing.
+use mathlib.Core.Path.{_≡_, refl, sym, ap, _∙_, subst, fun-ext}
+use mathlib.Core.Bool.{Bool}
+use mathlib.Core.List.{List, [], _∷_, _++_, map, map-map, map-append, List·Memᴰ, List·Memᴰ·head, List·Memᴰ·tail}
+use mathlib.Core.Logic.{_⊎_, inl, inr}
+use mathlib.Core.Option.{none, some, Option·some-ne-none}
+use Prim.Native.Nat.{ℕ, zero, suc, _+_, _*_, _/_, _≤_, _<_}
+use native.Mathlib.Decide.{ℕ-discrete}
+use native.Mathlib.Omega.{arith}
+use Rattle.prefix.specs.Bits.{Bits}
+use Rattle.trie.specs.Trie.{Cell, Root, Kid, Trie, Inside, Fits, Points, Owned, Sound, Branchy}
+use Rattle.trie.proofs.Insertions.{upd, upd-same, upd-other}
+use Rattle.trie.proofs.Pigeonhole.{Distinct}
+use Rattle.cache.specs.Slots.{Cache, entryNode, branchNode, setHop, setPrev, setNext}
+use Rattle.cache.specs.Sound.{prefixAt, hopAt, childAt, cellAt, trie, Slot, Live, Ring, SoundCache, Entry, entryOf, order, entries}
+use Rattle.cache.specs.Changes.{unlink, pushFront, toFront, moveLinks}
+use Rattle.cache.proofs.Nodes.{Node, is-entry, is-branch, node, hop-entry, hop-branch}
+use Rattle.cache.proofs.Rings.{without, mem-last, without-last}
+use Rattle.cache.proofs.Orders.{Order, ring-order, order-ring, order-is, order-same, order-distinct, in-slot, order-front, order-last}
+
+-- ---- the trie does not depend on the order of use
+
+child-path : (c w : Cache) → w .child ≡ c .child → (e : Cell) → childAt w e ≡ childAt c e
+unfolding childAt
+child-path c w h Root = rw h
+child-path c w h (Kid x b) = rw h
+
+trie-path : {v w : Trie} → v .prefix ≡ w .prefix → v .hop ≡ w .hop → v .child ≡ w .child → v .up ≡ w .up → v ≡ w
+trie-path p h d u = λ i. record { prefix = p i; hop = h i; child = d i; up = u i }
+
+pub unlink-trie : (c : Cache) (k : ℕ) → trie (unlink c k) ≡ trie c
+unfolding unlink setPrev setNext prefixAt hopAt
+unlink-trie c k = trie-path refl refl (fun-ext (child-path c (unlink c k) refl)) refl
+
+pub push-trie : (c : Cache) (k : ℕ) → trie (pushFront c k) ≡ trie c
+unfolding pushFront setPrev setNext prefixAt hopAt
+push-trie c k = trie-path refl refl (fun-ext (child-path c (pushFront c k) refl)) refl
+
+pub links-trie : (c : Cache) (s t : ℕ) → trie (moveLinks c s t) ≡ trie c
+unfolding moveLinks setPrev setNext prefixAt hopAt
+links-trie c s t = trie-path refl refl (fun-ext (child-path c (moveLinks c s t) refl)) refl
+
+pub same-trie : {n : ℕ} (c w : Cache) → trie w ≡ trie c → Sound (Live n) (trie c) → Branchy (Live n) (trie c) → Ring n w → SoundCache n w
+same-trie {n} c w e S B R = record { pointers = subst (λ (v : Trie). Sound (Live n) v) (sym e) S; branchy = subst (λ (v : Trie). Branchy (Live n) v) (sym e) B; ring = R }
+
+-- ---- the entries, slot by slot
+
+pub entry-path : {a b : Entry} → a .prefix ≡ b .prefix → a .hop ≡ b .hop → a ≡ b
+entry-path p q = λ i. record { prefix = p i; hop = q i }
+
+pub map-same : {A B : Type 0} (f g : A → B) (l : List A) → ((i : A) → List·Memᴰ i l → f i ≡ g i) → map f l ≡ map g l
+map-same f g [] h = refl
+map-same f g (x ∷ l) h = let a = h x (List·Memᴰ·head refl) in let b = map-same f g l (λ i m. h i (List·Memᴰ·tail m)) in cc
+
+pub entries-of : {n : ℕ} {c : Cache} {l : List ℕ} → Order n c l → entries n c ≡ map (entryOf c) l
+unfolding entries
+entries-of {n} {c} o = ap (map (entryOf c)) (order-is o)
+
+-- ---- an entry is used
+
+entry-front : (c : Cache) (k : ℕ) (l : List ℕ) → map (entryOf (toFront c k)) l ≡ map (entryOf c) l
+unfolding toFront pushFront unlink setPrev setNext
+entry-front c k l = map-same (entryOf (toFront c k)) (entryOf c) l (λ i m. refl)
+
+module _ {n : ℕ} {c : Cache} (S : SoundCache n c) where
+  -- the entries but that of slot k, in their order
+  abbrev pub others : ℕ → List Entry
+  others k = map (entryOf c) (without k (order n c))
+
+  module _ (k : ℕ) (h : Slot n k) where
+    front : Order n (toFront c k) (k ∷ without k (order n c))
+    front = order-front (ring-order (S .ring)) k h
+
+    pub front-sound : SoundCache n (toFront c k)
+    unfolding toFront
+    front-sound = same-trie c (toFront c k) (push-trie (unlink c k) k ∙ unlink-trie c k) (S .pointers) (S .branchy) (order-ring front)
+
+    pub front-entries : entries n (toFront c k) ≡ entryOf c k ∷ others k
+    front-entries = entries-of front ∙ entry-front c k (k ∷ without k (order n c))
+
+  -- ---- the least recently used
+
+  module _ {m : ℕ} (is : n ≡ suc m) where
+    last : (i : List ℕ) × (order n c ≡ i ++ (c .prev 0 ∷ []))
+    last = order-last (subst (λ (k : ℕ). Order k c (order n c)) is (ring-order (S .ring)))
+
+    pub oldest-slot : Slot n (c .prev 0)
+    oldest-slot = in-slot (ring-order (S .ring)) (c .prev 0) (subst (λ (l : List ℕ). List·Memᴰ (c .prev 0) l) (sym (last .1)) (mem-last (c .prev 0) (last .0)))
+
+    -- it comes last
+    pub oldest-last : entries n c ≡ others (c .prev 0) ++ (entryOf c (c .prev 0) ∷ [])
+    unfolding entries
+    oldest-last =
+        ap (map (entryOf c)) (last .1 ∙ ap (λ (i : List ℕ). i ++ (c .prev 0 ∷ [])) (sym rest)) ∙ map-append (entryOf c) (without (c .prev 0) (order n c)) (c .prev 0 ∷ [])
+      where
+        distinct : Distinct (last .0 ++ (c .prev 0 ∷ []))
+        distinct = subst (λ (l : List ℕ). Distinct l) (last .1) (order-distinct (ring-order (S .ring)))
+
+        rest : without (c .prev 0) (order n c) ≡ last .0
+        rest = ap (without (c .prev 0)) (last .1) ∙ without-last (c .prev 0) (last .0) distinct
+
+  -- ---- an entry gets another hop
+
+  module _ (k h : ℕ) where
+    pub hop-sound : SoundCache n (setHop c k h)
+    unfolding setHop prefixAt
+    hop-sound = record {
+      pointers = record {
+        points = λ e j i f. let p = S .pointers .points e j i (child e f) in record { is-live = p .is-live; back = p .back; fits = fits e (prefixAt c j) (p .fits) };
+        owned = λ j l. let o = S .pointers .owned j l in record { inside = o .inside; child = child-path c (setHop c k h) refl (cellAt (c .up j)) ∙ o .child };
+      };
+      branchy = λ a l f b. go a l b (node a) f;
+      ring = order-ring (order-same (setHop c k h) refl refl (ring-order (S .ring)));
+    }
+      where
+        child : (e : Cell) {j : ℕ} → childAt (setHop c k h) e ≡ some j → childAt c e ≡ some j
+        child e f = sym (child-path c (setHop c k h) refl e) ∙ f
+
+        fits : (e : Cell) (p : Bits) → Fits (trie c) e p → Fits (trie (setHop c k h)) e p
+        fits Root p f = tt
+        fits (Kid a b) p f = f
+
+        go : (a : ℕ) → Live n a → (b : Bool) → Node a → hopAt (setHop c k h) a ≡ none → (j : ℕ) × (childAt (setHop c k h) (Kid a b) ≡ some j)
+        go a l b (is-entry i e) f = absurd (Option·some-ne-none _ (sym (hop-entry (setHop c k h) i) ∙ ap (hopAt (setHop c k h)) (sym e) ∙ f))
+        go a l b (is-branch i e) f = let t = S .branchy a l (ap (hopAt c) e ∙ hop-branch c i) b in (t .0, child-path c (setHop c k h) refl (Kid a b) ∙ t .1)
+
+    -- f changes the one entry's hop and leaves the others
+    pub hop-entries : (f : Entry → Entry) → f (entryOf c k) ≡ record { prefix = c .entry k; hop = h } → ((i : ℕ) → Slot n i → ¬ (i ≡ k) → f (entryOf c i) ≡ entryOf c i) → entries n (setHop c k h) ≡ map f (entries n c)
+    unfolding entries setHop
+    hop-entries f same other =
+        ap (map (entryOf (setHop c k h))) (order-is (order-same (setHop c k h) refl refl (ring-order (S .ring))))
+        ∙ map-same (entryOf (setHop c k h)) (λ i. f (entryOf c i)) (order n c) (λ i m. go i (in-slot (ring-order (S .ring)) i m) (ℕ-discrete i k)) ∙ sym (map-map f (entryOf c) (order n c))
+      where
+        go : (i : ℕ) → Slot n i → Dec (i ≡ k) → entryOf (setHop c k h) i ≡ f (entryOf c i)
+        go i l (yes e) = rw e (entry-path refl (upd-same _ _ _ _ k refl) ∙ sym same)
+        go i l (no ne) = entry-path refl (upd-other _ _ _ _ i ne) ∙ sym (other i l ne)
