@@ -4,3 +4,4 @@ pub mod Walking
 pub mod Rings
 pub mod Orders
 pub mod Using
+pub mod Inserting

@@ -32,6 +32,10 @@ module _ (n q : ℕ) where
       go (no h) = inl (omega arith)
       go (yes h) = let l : Live n (branchNode (q / 2)) = rw (cell-suc q h) at i in inr (omega arith)
 
+  pub cell-low : InUse n q → q ≤ cellOf n true
+  cell-low (inl e) = omega arith
+  cell-low (inr h) = omega arith
+
 -- the cell q points at a live node that knows it and goes on from it
 pub record Pointed (n : ℕ) (c : Cache) (q : ℕ) : Type 0 where
   pub live : Live n (c .child q)

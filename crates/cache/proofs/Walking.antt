@@ -74,7 +74,7 @@ abbrev pub Short : ℕ → Cache → Bits → Type 0
 Short n c X = (i : ℕ) → Slot n i → length (c .entry i) ≤ length X
 
 -- the bit by which X goes on from p
-goes-on : {p X : Bits} → p ⊑ X → length p < length X → Below p (getD X (length p) false) X
+pub goes-on : {p X : Bits} → p ⊑ X → length p < length X → Below p (getD X (length p) false) X
 goes-on (⊑nil {x = []}) h = absurd (not-suc-le-zero h)
 goes-on (⊑nil {x = b ∷ y}) h = here refl
 goes-on (⊑cons e p) h = there e (goes-on p (le-of-suc-le-suc h))
@@ -164,7 +164,7 @@ module _ {n : ℕ} {c : Cache} (S : SoundCache n c) (X : Bits) where
 
   module _ (x : ℕ) (o : On n c X x) (e : passes c X x ≡ false) where
     -- where the walk stops X contains no branch
-    miss-or-entry : ((i : ℕ) × (x ≡ entryNode i)) ⊎ (¬ (prefixAt c x ⊑ X))
+    pub miss-or-entry : ((i : ℕ) × (x ≡ entryNode i)) ⊎ (¬ (prefixAt c x ⊑ X))
     miss-or-entry = go (node x)
       where
         go : Node x → ((i : ℕ) × (x ≡ entryNode i)) ⊎ (¬ (prefixAt c x ⊑ X))

@@ -91,4 +91,4 @@ fillSlot c s t = cond (eqb s t) c (moveBranch (moveEntry c s t) s t)
 
 -- the entry of slot k of n, which hangs on the side b of the branch in slot j: the entry of slot j goes to slot k, and the last slot to j
 unfoldable pub removeAt : Cache → ℕ → ℕ → ℕ → Bool → Cache
-removeAt c n k j b = fillSlot (fillEntry (prune (unlink c k) j b) j k) n j
+removeAt c n k j b = fillSlot (fillEntry (unlink (prune c j b) k) j k) n j
