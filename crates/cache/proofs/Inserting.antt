@@ -14,12 +14,13 @@ use Rattle.prefix.proofs.Booleans.{bool-other}
 use Rattle.prefix.proofs.Order.{⊑-trans, ⊑-by-length, ⊑-eq, ⊑-take, below-⊑, below-<, below-bit, below-trans, below-by-length}
 use Rattle.prefix.proofs.Common.{common-take, shared-length, shared-left, shared-right, shared-great, shared-fork, below-shared}
 use Rattle.prefix.proofs.Tests.{apart-⊑, apart-not}
+use Rattle.model.specs.Model.{Entry}
 use Rattle.trie.specs.Trie.{Cell, Root, Kid, Trie, Inside, Fits, Points, Sound, Branchy}
 use Rattle.trie.proofs.Cutting.{fits-trans}
 use Rattle.trie.proofs.Growing.{Grown, grown-sound, grown-branchy, branchy-old, full-old}
 use Rattle.trie.proofs.Insertions.{upd, upd-same, upd-other}
 use Rattle.cache.specs.Slots.{Cache, entryNode, branchNode, cellOf, rootCell, setEntry, setBranch, setChild, setUp, setPrev, setNext}
-use Rattle.cache.specs.Sound.{prefixAt, hopAt, pointer, childAt, cellAt, trie, Slot, Live, InUse, SoundCache, Entry, entryOf, order, entries}
+use Rattle.cache.specs.Sound.{prefixAt, hopAt, pointer, childAt, cellAt, trie, Slot, Live, InUse, SoundCache, entryOf, order, entries}
 use Rattle.cache.specs.Changes.{passes, find, pushFront, insertFirst, hang, insertAt}
 use Rattle.cache.proofs.Nodes.{Node, is-entry, is-branch, node, digit-small, prefix-entry, prefix-branch, hop-entry, hop-branch, child-entry, child-branch, pointer-some, some-pointer, pointer-none, cell-root, cell-branch, child-cell, cell-inj, prefix-same, hop-same, child-same}
 use Rattle.cache.proofs.Shape.{inside-cell, cell-inside, cell-low, Pointed, pointed, hangs, prefix-slot}
@@ -90,9 +91,6 @@ module _ {n : ℕ} {c : Cache} (S : SoundCache n c) (q : ℕ) (qi : InUse n q) (
   u-full : childAt u (Kid (branchNode (suc n)) d) ≡ some (c .child q)
   u-full = child-branch u (suc n) d ∙ ap pointer u-side ∙ pointer-some (c .child q) full
 
-  not-one : (live : ℕ → Type 0) → ¬ live 1 → (e : Cell) → Inside live e → (b : Bool) → ¬ (e ≡ Kid (branchNode 0) b)
-  not-one live n e i b z = n (rw z at i)
-
   g₁ : Grown (Live n) Mid (trie c) (trie u) (cellAt q) (branchNode (suc n)) L none
   unfolding hang setEntry setBranch setChild setUp
   g₁ = record {
@@ -108,7 +106,7 @@ module _ {n : ℕ} {c : Cache} (S : SoundCache n c) (q : ℕ) (qi : InUse n q) (
     hop-new = hop-branch u (suc n);
     up-old = λ a l ne. ap cellAt (upd-other _ _ _ _ a (λ z. omega arith) ∙ upd-other _ _ _ _ a (λ z. omega arith) ∙ upd-other _ _ _ _ a (λ z. ne (ap cellAt (ap (c .up) z ∙ px .knows))));
     up-new = ap cellAt (upd-same _ _ _ _ (branchNode (suc n)) refl);
-    child-old = λ e i ne. child-same c u e (not-one (Live n) (λ l. omega arith) e i) (λ r z. old e i ne r z);
+    child-old = λ e i ne. child-same c u (Live n) (λ l. omega arith) e i (λ r z. old e i ne r z);
     child-cell = child-cell u q ∙ ap pointer (upd-other _ _ _ _ q (λ z. omega (arith, cell-low n q qi)) ∙ upd-same _ _ _ _ q refl) ∙ pointer-some (branchNode (suc n)) (omega arith);
     child-new = λ b j f. new b j f (Bool-discrete b d);
     child-kept = λ j f. (d, u-full ∙ sym (child-cell c q ∙ pointer-some (c .child q) full) ∙ f);
@@ -149,7 +147,7 @@ module _ {n : ℕ} {c : Cache} (S : SoundCache n c) (q : ℕ) (qi : InUse n q) (
     hop-new = hop-entry w (suc n) ∙ ap {B = Option ℕ} some (upd-same _ _ _ _ (suc n) refl);
     up-old = λ a l ne. refl;
     up-new = ap cellAt (upd-other _ _ _ _ (entryNode (suc n)) (λ z. omega arith) ∙ upd-same _ _ _ _ (entryNode (suc n)) refl) ∙ cell-branch (suc n) (not d) (omega arith);
-    child-old = λ e i ne. child-same u w e (not-one Mid one e i) (λ r z. sym (upd-other _ _ _ _ r (λ y. ne (z ∙ ap cellAt y ∙ cell-branch (suc n) (not d) (omega arith)))));
+    child-old = λ e i ne. child-same u w Mid one e i (λ r z. sym (upd-other _ _ _ _ r (λ y. ne (z ∙ ap cellAt y ∙ cell-branch (suc n) (not d) (omega arith)))));
     child-cell = child-branch w (suc n) (not d) ∙ ap pointer w-entry ∙ pointer-some (entryNode (suc n)) (omega arith);
     child-new = λ b j f. absurd (Option·none-ne-some j (sym (child-entry w (suc n) b) ∙ f));
     child-kept = λ j f. absurd (Option·none-ne-some j (sym u-empty ∙ f));

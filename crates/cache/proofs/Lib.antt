@@ -5,3 +5,5 @@ pub mod Rings
 pub mod Orders
 pub mod Using
 pub mod Inserting
+pub mod Moves
+pub mod Removing

@@ -138,14 +138,14 @@ module _ (c w : Cache) where
   unfolding hopAt
   hop-same x e = rw e
 
-  -- a cell that has a number
-  pub child-same : (e : Cell) → ((b : Bool) → ¬ (e ≡ Kid (branchNode 0) b)) → ((q : ℕ) → e ≡ cellAt q → w .child q ≡ c .child q) → childAt w e ≡ childAt c e
-  child-same Root n h = rw (← cell-root) (child-cell w rootCell ∙ ap pointer (h rootCell (sym cell-root)) ∙ sym (child-cell c rootCell))
-  child-same (Kid x b) n h = go (node x)
+  -- a cell in use; slot 0 has no branch
+  pub child-same : (live : ℕ → Type 0) → ¬ live (branchNode 0) → (e : Cell) → Inside live e → ((q : ℕ) → e ≡ cellAt q → w .child q ≡ c .child q) → childAt w e ≡ childAt c e
+  child-same live n Root i h = rw (← cell-root) (child-cell w rootCell ∙ ap pointer (h rootCell (sym cell-root)) ∙ sym (child-cell c rootCell))
+  child-same live n (Kid x b) l h = go (node x)
     where
       go : Node x → childAt w (Kid x b) ≡ childAt c (Kid x b)
       go (is-entry i e) = rw e (child-entry w i b ∙ sym (child-entry c i b))
-      go (is-branch zero e) = absurd (n b (ap (λ (y : ℕ). Kid y b) e))
+      go (is-branch zero e) = absurd (n (rw e at l))
       go (is-branch (suc i) e) =
           let z : Kid x b ≡ cellAt (cellOf (suc i) b) = ap (λ (y : ℕ). Kid y b) e ∙ sym (cell-branch (suc i) b (omega arith)) in
           rw z (child-cell w (cellOf (suc i) b) ∙ ap pointer (h (cellOf (suc i) b) z) ∙ sym (child-cell c (cellOf (suc i) b)))

@@ -8,11 +8,12 @@ use Prim.Native.Nat.{ℕ, zero, suc, _+_, _*_, _/_, _≤_, _<_}
 use native.Mathlib.Decide.{ℕ-discrete}
 use native.Mathlib.Omega.{arith}
 use Rattle.prefix.specs.Bits.{Bits}
+use Rattle.model.specs.Model.{Entry}
 use Rattle.trie.specs.Trie.{Cell, Root, Kid, Trie, Inside, Fits, Points, Owned, Sound, Branchy}
 use Rattle.trie.proofs.Insertions.{upd, upd-same, upd-other}
 use Rattle.trie.proofs.Pigeonhole.{Distinct}
 use Rattle.cache.specs.Slots.{Cache, entryNode, branchNode, setHop, setPrev, setNext}
-use Rattle.cache.specs.Sound.{prefixAt, hopAt, childAt, cellAt, trie, Slot, Live, Ring, SoundCache, Entry, entryOf, order, entries}
+use Rattle.cache.specs.Sound.{prefixAt, hopAt, childAt, cellAt, trie, Slot, Live, Ring, SoundCache, entryOf, order, entries}
 use Rattle.cache.specs.Changes.{unlink, pushFront, toFront, moveLinks}
 use Rattle.cache.proofs.Nodes.{Node, is-entry, is-branch, node, hop-entry, hop-branch}
 use Rattle.cache.proofs.Rings.{without, mem-last, without-last}

@@ -8,6 +8,7 @@ use mathlib.Core.Option.{Option, none, some}
 use Prim.Native.Nat.{ℕ, zero, suc, _+_, _*_, _/_, _%_, _≤_, _<_}
 use lib.ListN.{take}
 use Rattle.prefix.specs.Bits.{Bits, one?, digit}
+use Rattle.model.specs.Model.{Entry}
 use Rattle.trie.specs.Trie.{Cell, Root, Kid, Trie, Sound, Branchy}
 use Rattle.cache.specs.Slots.{Cache, entryNode, branchNode, cellOf, rootCell}
 
@@ -68,10 +69,6 @@ pub record SoundCache (n : ℕ) (c : Cache) : Type 0 where
   pub ring : Ring n c
 
 -- ---- the entries
-
-pub record Entry : Type 0 where
-  pub prefix : Bits
-  pub hop : ℕ
 
 abbrev pub entryOf : Cache → ℕ → Entry
 entryOf c i = record { prefix = c .entry i; hop = c .hop i }
