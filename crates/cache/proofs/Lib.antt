@@ -7,3 +7,4 @@ pub mod Using
 pub mod Inserting
 pub mod Moves
 pub mod Removing
+pub mod Holding

@@ -114,11 +114,11 @@ shrink n a l p q = omega arith
 -- w holds what c holds, but for the entry of slot k
 pub record Removed (n : ℕ) (c w : Cache) (k : ℕ) : Type 0 where
   pub sound : SoundCache n w
-  pub holds : entries n w ≡ map (entryOf c) (without k (order (suc n) c))
+  pub holds : entries n w ≡ others (suc n) c k
 
 module _ {n : ℕ} {c : Cache} (S : SoundCache (suc n) c) (k j : ℕ) (b : Bool) (lk : Slot (suc n) k) (is-up : c .up (entryNode k) ≡ cellOf j b) (pos : 0 < j) where
   abbrev es : List Entry
-  es = map (entryOf c) (without k (order (suc n) c))
+  es = others (suc n) c k
 
   lj : (1 < j) × (j ≤ suc n)
   lj = parent-slot S k j b lk is-up pos

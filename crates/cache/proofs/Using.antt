@@ -57,6 +57,10 @@ pub entries-of : {n : ℕ} {c : Cache} {l : List ℕ} → Order n c l → entrie
 unfolding entries
 entries-of {n} {c} o = ap (map (entryOf c)) (order-is o)
 
+-- the entries but that of slot k, in their order
+abbrev pub others : ℕ → Cache → ℕ → List Entry
+others n c k = map (entryOf c) (without k (order n c))
+
 -- ---- an entry is used
 
 entry-front : (c : Cache) (k : ℕ) (l : List ℕ) → map (entryOf (toFront c k)) l ≡ map (entryOf c) l
@@ -64,10 +68,6 @@ unfolding toFront pushFront unlink setPrev setNext
 entry-front c k l = map-same (entryOf (toFront c k)) (entryOf c) l (λ i m. refl)
 
 module _ {n : ℕ} {c : Cache} (S : SoundCache n c) where
-  -- the entries but that of slot k, in their order
-  abbrev pub others : ℕ → List Entry
-  others k = map (entryOf c) (without k (order n c))
-
   module _ (k : ℕ) (h : Slot n k) where
     front : Order n (toFront c k) (k ∷ without k (order n c))
     front = order-front (ring-order (S .ring)) k h
@@ -76,7 +76,7 @@ module _ {n : ℕ} {c : Cache} (S : SoundCache n c) where
     unfolding toFront
     front-sound = same-trie c (toFront c k) (push-trie (unlink c k) k ∙ unlink-trie c k) (S .pointers) (S .branchy) (order-ring front)
 
-    pub front-entries : entries n (toFront c k) ≡ entryOf c k ∷ others k
+    pub front-entries : entries n (toFront c k) ≡ entryOf c k ∷ others n c k
     front-entries = entries-of front ∙ entry-front c k (k ∷ without k (order n c))
 
   -- ---- the least recently used
@@ -89,7 +89,7 @@ module _ {n : ℕ} {c : Cache} (S : SoundCache n c) where
     oldest-slot = in-slot (ring-order (S .ring)) (c .prev 0) (subst (λ (l : List ℕ). List·Memᴰ (c .prev 0) l) (sym (last .1)) (mem-last (c .prev 0) (last .0)))
 
     -- it comes last
-    pub oldest-last : entries n c ≡ others (c .prev 0) ++ (entryOf c (c .prev 0) ∷ [])
+    pub oldest-last : entries n c ≡ others n c (c .prev 0) ++ (entryOf c (c .prev 0) ∷ [])
     unfolding entries
     oldest-last =
         ap (map (entryOf c)) (last .1 ∙ ap (λ (i : List ℕ). i ++ (c .prev 0 ∷ [])) (sym rest)) ∙ map-append (entryOf c) (without (c .prev 0) (order n c)) (c .prev 0 ∷ [])
