@@ -8,3 +8,4 @@ pub mod Inserting
 pub mod Moves
 pub mod Removing
 pub mod Holding
+pub mod Carrying
