@@ -9,3 +9,4 @@ pub mod Moves
 pub mod Removing
 pub mod Holding
 pub mod Carrying
+pub mod Checking
