@@ -2,15 +2,15 @@
 use mathlib.Core.Path.{_≡_, refl, sym, ap, _∙_, subst}
 use mathlib.Core.Bool.{false}
 use mathlib.Core.List.{List, [], _∷_, _++_, map, Memᴰ·map}
-use Prim.Native.Nat.{ℕ, zero, suc, _+_, _≤_, _<_}
+use Prim.Native.Nat.{ℕ, _<_}
 use native.Mathlib.Decide.{decLt}
 use native.Mathlib.Omega.{arith}
-use lib.ListN.{length, take, replicate, length-append, length-replicate}
+use lib.ListN.{length, replicate, length-append, length-replicate}
 use lib.Seq.{take-append-seam}
 use Rattle.prefix.specs.Bits.{Bits}
 use Rattle.prefix.specs.Prefix.{overlap, _⊑_}
 use Rattle.prefix.proofs.Order.{take-⊑}
-use Rattle.model.specs.Lists.{_∈_, largest, p-nil, p-cons}
+use Rattle.model.specs.Lists.{_∈_, largest, p-cons}
 use Rattle.model.specs.Model.{Entry}
 use Rattle.model.specs.Demands.{NoOverlap}
 use Rattle.model.proofs.ListLaws.{le-largest}
@@ -20,7 +20,7 @@ use Rattle.cache.specs.Changes.{insertFirst}
 use Rattle.cache.proofs.Walking.{Short}
 use Rattle.cache.proofs.Inserting.{Inserted, Free, insert-found, insert-first}
 use Rattle.cache.proofs.Removing.{empty-sound}
-use Rattle.cache.proofs.Holding.{entries-length, slot-entry}
+use Rattle.cache.proofs.Holding.{slot-entry}
 
 pub record Carried (es : List Entry) : Type 0 where
   pub cache : Cache

@@ -1,27 +1,27 @@
 -- The check decides soundness: the conditions on single slots and the walk along the ring hold exactly for a sound cache. Assumes nothing.
 use mathlib.Core.Path.{_≡_, refl, sym, ap, _∙_, subst}
-use mathlib.Core.Bool.{Bool, true, false, cond}
-use mathlib.Core.List.{List, [], _∷_, List·Memᴰ, List·Memᴰ·head, List·Memᴰ·tail, List·Memᴰ·not-nil, List·Memᴰ·cases-cons}
+use mathlib.Core.Bool.{Bool, false, cond}
+use mathlib.Core.List.{List, _∷_, List·Memᴰ, List·Memᴰ·cases-cons}
 use mathlib.Core.Logic.{_⊎_, inl, inr, _↔_}
-use mathlib.Core.Option.{Option, none, some, Option·none-ne-some, Option·some-ne-none}
-use Prim.Native.Nat.{ℕ, zero, suc, _+_, _*_, _/_, _%_, _≤_, _<_}
-use native.Mathlib.Decide.{ℕ-discrete, decLt, decLe}
+use mathlib.Core.Option.{none, some, Option·none-ne-some, Option·some-ne-none}
+use Prim.Native.Nat.{ℕ, zero, suc, _/_, _%_, _≤_, _<_}
+use native.Mathlib.Decide.{ℕ-discrete, decLt}
 use native.Mathlib.Omega.{arith}
 use lib.ListN.{length, take, getD}
-use Rattle.prefix.specs.Bits.{Bits, one?, digit}
+use Rattle.prefix.specs.Bits.{Bits, one?}
 use Rattle.prefix.specs.Prefix.{common, _⊑_, Below}
-use Rattle.prefix.proofs.Order.{⊑-trans, ⊑-by-length, ⊑-length, take-⊑, take-len, below-⊑, below-<, below-bit, below-trans, below-by-length}
+use Rattle.prefix.proofs.Order.{⊑-length, take-⊑, take-len, below-⊑, below-<, below-bit, below-trans, below-by-length}
 use Rattle.prefix.proofs.Common.{le-common, common-⊑}
-use Rattle.trie.specs.Trie.{Cell, Root, Kid, Inside, Fits, Points, Owned, Sound, Branchy}
+use Rattle.trie.specs.Trie.{Cell, Root, Kid, Inside, Fits, Points, Owned}
 use Rattle.trie.proofs.Pigeonhole.{Distinct, pigeonhole}
 use Rattle.cache.specs.Slots.{Cache, entryNode, branchNode, cellOf, rootCell}
-use Rattle.cache.specs.Sound.{prefixAt, hopAt, pointer, childAt, cellAt, trie, Slot, Live, InUse, along, Ring, SoundCache, order}
-use Rattle.cache.specs.Checks.{lengthAt, Hangs, Leads, BranchOk, SlotOk, RootOk, Checked, Walked}
-use Rattle.cache.proofs.Nodes.{Node, is-entry, is-branch, node, digit-small, prefix-entry, prefix-branch, hop-entry, child-entry, child-branch, pointer-some, some-pointer, pointer-none, cell-root, cell-branch, child-cell}
+use Rattle.cache.specs.Sound.{prefixAt, hopAt, pointer, childAt, cellAt, trie, Slot, Live, along, Ring, SoundCache, order}
+use Rattle.cache.specs.Checks.{lengthAt, Hangs, Leads, BranchOk, RootOk, Checked, Walked}
+use Rattle.cache.proofs.Nodes.{Node, is-entry, is-branch, node, digit-small, prefix-entry, prefix-branch, hop-entry, child-entry, child-branch, pointer-some, some-pointer, cell-root, cell-branch, child-cell}
 use Rattle.cache.proofs.Shape.{inside-cell, Pointed, pointed, hangs, root-full, branch-full, branch-short, prefix-slot}
 use Rattle.cache.proofs.Walking.{goes-on}
-use Rattle.cache.proofs.Rings.{Chain, without, without-length}
-use Rattle.cache.proofs.Orders.{Order, ring-order, order-ring, in-slot, order-all, order-distinct}
+use Rattle.cache.proofs.Rings.{Chain, without, without-keep, without-length}
+use Rattle.cache.proofs.Orders.{ring-order, order-ring, in-slot, order-all, order-distinct}
 
 -- ---- one side of a branch
 
@@ -181,17 +181,6 @@ module _ {n : ℕ} {c : Cache} where
   ring-walked R = (record { within = λ j h. R .within j (omega arith); undone = λ j h. R .undone j (omega arith); others = λ j l h. R .others j (l, omega arith) }, R .back)
 
 -- ---- the ring goes through every slot once
-
-without-keep : (k : ℕ) (l : List ℕ) (a : ℕ) → ¬ (a ≡ k) → List·Memᴰ a l → List·Memᴰ a (without k l)
-unfolding without
-without-keep k [] a n m = m
-without-keep k (x ∷ l) a n m = go (ℕ-discrete x k) (List·Memᴰ·cases-cons m) (λ h. without-keep k l a n h)
-  where
-    go : (d : Dec (x ≡ k)) → (a ≡ x) ⊎ List·Memᴰ a l → (List·Memᴰ a l → List·Memᴰ a (without k l)) → List·Memᴰ a (elim d [ yes e ↦ l | no n ↦ x ∷ without k l ])
-    go (yes e) (inl z) rec = absurd (n (z ∙ e))
-    go (yes e) (inr h) rec = h
-    go (no q) (inl z) rec = List·Memᴰ·head z
-    go (no q) (inr h) rec = List·Memᴰ·tail (rec h)
 
 all-length : (n : ℕ) (l : List ℕ) → ((a : ℕ) → Slot n a → List·Memᴰ a l) → n ≤ length l
 all-length zero l h = omega arith

@@ -1,16 +1,16 @@
 -- The entries of a sound cache as the model's list: what the model finds in it, leaves out of it and cuts off it. Assumes nothing.
 use mathlib.Core.Path.{_≡_, refl, sym, ap, _∙_, subst}
-use mathlib.Core.Bool.{Bool, true, false, not, cond}
-use mathlib.Core.List.{List, [], _∷_, _++_, map, map-map, List·Memᴰ·head, List·Memᴰ·tail, List·Memᴰ·not-nil, List·Memᴰ·cases-cons, Memᴰ·map, Memᴰ·of-map}
+use mathlib.Core.Bool.{Bool, true, false, cond}
+use mathlib.Core.List.{List, [], _∷_, map, List·Memᴰ·head, List·Memᴰ·tail, List·Memᴰ·not-nil, List·Memᴰ·cases-cons, Memᴰ·map, Memᴰ·of-map}
 use mathlib.Core.Logic.{_⊎_, inl, inr}
 use mathlib.Core.Option.{Option, none, some}
-use Prim.Native.Nat.{ℕ, zero, suc, _+_, _/_, _≤_, _<_}
+use Prim.Native.Nat.{ℕ, suc, _≤_}
 use native.Mathlib.Decide.{ℕ-discrete}
 use native.Mathlib.Omega.{arith}
 use lib.ListN.{length, take, length-map}
 use lib.Seq.{take-at}
 use Rattle.prefix.specs.Bits.{Bits}
-use Rattle.prefix.specs.Prefix.{contains, overlap, common, _⊑_}
+use Rattle.prefix.specs.Prefix.{contains, overlap, common}
 use Rattle.prefix.proofs.Booleans.{is-false, clash}
 use Rattle.prefix.proofs.Tests.{contains-⊑}
 use Rattle.model.specs.Lists.{_∈_, keep, first, omit, largest, Pairwise, p-nil, p-cons}
@@ -20,7 +20,6 @@ use Rattle.model.proofs.ListLaws.{le-largest, largest-in, Pairwise-map}
 use Rattle.trie.proofs.Pigeonhole.{Distinct}
 use Rattle.cache.specs.Slots.{Cache}
 use Rattle.cache.specs.Sound.{Slot, SoundCache, entryOf, order, entries}
-use Rattle.cache.specs.Changes.{find}
 use Rattle.cache.proofs.Shape.{no-overlap}
 use Rattle.cache.proofs.Walking.{Nearest}
 use Rattle.cache.proofs.Rings.{without, without-length}
@@ -143,7 +142,7 @@ module _ {n : ℕ} {c : Cache} (S : SoundCache n c) where
         go x (E, m, e) = sub x E e (entry-slot E m)
 
 -- the least recently used leaves: the others are the first n
-pub oldest-leaves : {n : ℕ} {c w : Cache} → SoundCache (suc n) c → Removed n c w (c .prev 0) → entries n w ≡ take n (entries (suc n) c)
+pub oldest-leaves : {n : ℕ} {c w : Cache} {place : ℕ → ℕ} → SoundCache (suc n) c → Removed n c w (c .prev 0) place → entries n w ≡ take n (entries (suc n) c)
 oldest-leaves {n} {c} {w} S R =
     R .holds ∙ sym (ap (take n) (oldest-last S refl) ∙ take-at (others (suc n) c (c .prev 0)) (entryOf c (c .prev 0) ∷ []) n (omega (arith, size, without-length (c .prev 0) (order (suc n) c) there, ring-order (S .ring) .size)))
   where

@@ -1,10 +1,10 @@
 -- An entry that overlaps no other is put into slot n + 1, as the most recently used. Assumes nothing.
 use mathlib.Core.Path.{_≡_, refl, sym, ap, ap₂, _∙_, subst}
 use mathlib.Core.Bool.{Bool, true, false, not, Bool-discrete}
-use mathlib.Core.List.{List, [], _∷_, map, List·Memᴰ}
+use mathlib.Core.List.{_∷_, List·Memᴰ}
 use mathlib.Core.Logic.{_⊎_, inl, inr}
 use mathlib.Core.Option.{Option, none, some, Option·none-ne-some, Option·some-ne-none}
-use Prim.Native.Nat.{ℕ, zero, suc, _+_, _*_, _/_, _%_, _≤_, _<_, min}
+use Prim.Native.Nat.{ℕ, suc, _+_, _/_, _<_}
 use native.Mathlib.Decide.{ℕ-discrete, decLt}
 use native.Mathlib.Omega.{arith}
 use lib.ListN.{length, take, getD}
@@ -14,15 +14,14 @@ use Rattle.prefix.proofs.Booleans.{bool-other}
 use Rattle.prefix.proofs.Order.{⊑-trans, ⊑-by-length, ⊑-eq, ⊑-take, below-⊑, below-<, below-bit, below-trans, below-by-length}
 use Rattle.prefix.proofs.Common.{common-take, shared-length, shared-left, shared-right, shared-great, shared-fork, below-shared}
 use Rattle.prefix.proofs.Tests.{apart-⊑, apart-not}
-use Rattle.model.specs.Model.{Entry}
-use Rattle.trie.specs.Trie.{Cell, Root, Kid, Trie, Inside, Fits, Points, Sound, Branchy}
+use Rattle.trie.specs.Trie.{Cell, Root, Kid, Trie, Inside, Fits, Sound, Branchy}
 use Rattle.trie.proofs.Cutting.{fits-trans}
 use Rattle.trie.proofs.Growing.{Grown, grown-sound, grown-branchy, branchy-old, full-old}
 use Rattle.trie.proofs.Insertions.{upd, upd-same, upd-other}
 use Rattle.cache.specs.Slots.{Cache, entryNode, branchNode, cellOf, rootCell, setEntry, setBranch, setChild, setUp, setPrev, setNext}
 use Rattle.cache.specs.Sound.{prefixAt, hopAt, pointer, childAt, cellAt, trie, Slot, Live, InUse, SoundCache, entryOf, order, entries}
 use Rattle.cache.specs.Changes.{passes, find, pushFront, insertFirst, hang, insertAt}
-use Rattle.cache.proofs.Nodes.{Node, is-entry, is-branch, node, digit-small, prefix-entry, prefix-branch, hop-entry, hop-branch, child-entry, child-branch, pointer-some, some-pointer, pointer-none, cell-root, cell-branch, child-cell, cell-inj, prefix-same, hop-same, child-same}
+use Rattle.cache.proofs.Nodes.{prefix-entry, prefix-branch, hop-entry, hop-branch, child-entry, child-branch, pointer-some, pointer-none, cell-root, cell-branch, child-cell, prefix-same, hop-same, child-same}
 use Rattle.cache.proofs.Shape.{inside-cell, cell-inside, cell-low, Pointed, pointed, hangs, prefix-slot}
 use Rattle.cache.proofs.Walking.{On, Short, goes-on, miss-or-entry, find-ends}
 use Rattle.cache.proofs.Orders.{Order, ring-order, order-ring, order-same, in-slot, order-insert}

@@ -3,25 +3,25 @@ use mathlib.Core.Path.{_≡_, refl, sym, ap, ap₂, _∙_, subst}
 use mathlib.Core.Bool.{Bool, true, false, not, Bool-discrete, false≢true}
 use mathlib.Core.Logic.{_⊎_, inl, inr}
 use mathlib.Core.Option.{Option, none, some, Option·none-ne-some}
-use Prim.Native.Nat.{ℕ, zero, suc, _+_, _*_, _/_, _%_, _≤_, _<_}
+use Prim.Native.Nat.{ℕ, _≤_, _<_}
 use native.Mathlib.Decide.{ℕ-discrete}
 use native.Mathlib.Omega.{arith}
 use lib.ListN.{length, take}
-use Rattle.prefix.specs.Bits.{Bits, digit}
+use Rattle.prefix.specs.Bits.{Bits}
 use Rattle.prefix.specs.Prefix.{_⊑_, Below}
 use Rattle.prefix.proofs.Booleans.{not-ne, bool-other}
-use Rattle.prefix.proofs.Order.{⊑-trans, ⊑-length, ⊑-total, ⊑-cases, ⊑-take, below-⊑, below-<, below-bit, below-trans, take-⊑}
-use Rattle.trie.specs.Trie.{Cell, Root, Kid, Trie, Inside, Fits, Points, Owned, Sound, Branchy}
+use Rattle.prefix.proofs.Order.{⊑-trans, ⊑-length, ⊑-total, ⊑-cases, ⊑-take, below-⊑, below-bit, below-trans, take-⊑}
+use Rattle.trie.specs.Trie.{Cell, Root, Kid, Trie, Inside, Fits, Points, Sound, Branchy}
 use Rattle.trie.proofs.Descent.{inject, under}
 use Rattle.trie.proofs.Insertions.{upd, upd-same, upd-other}
 use Rattle.trie.proofs.Cutting.{Cut, cut-sound, cut-full}
 use Rattle.trie.proofs.Moving.{Moved}
 use Rattle.trie.proofs.Removing.{cutAt, cut-at, Without}
-use Rattle.cache.specs.Slots.{Cache, entryNode, branchNode, cellOf, rootCell, setEntry, setBranch, setChild, setUp, setPrev, setNext}
+use Rattle.cache.specs.Slots.{Cache, entryNode, branchNode, cellOf, setEntry, setBranch, setChild, setUp, setPrev, setNext}
 use Rattle.cache.specs.Sound.{prefixAt, hopAt, pointer, childAt, cellAt, trie, Slot, Live, InUse, SoundCache}
 use Rattle.cache.specs.Changes.{moveLinks, prune, moveEntry, moveBranch}
-use Rattle.cache.proofs.Nodes.{Node, is-entry, is-branch, node, digit-small, prefix-entry, prefix-branch, hop-entry, hop-branch, child-entry, child-branch, pointer-some, some-pointer, cell-root, cell-branch, child-cell, cell-inj, prefix-same, hop-same, child-same, root-kid}
-use Rattle.cache.proofs.Shape.{Pointed, pointed, hangs, branch-full, branch-short, branch-length, prefix-slot}
+use Rattle.cache.proofs.Nodes.{Node, is-entry, is-branch, node, digit-small, prefix-entry, prefix-branch, hop-entry, hop-branch, child-entry, child-branch, pointer-some, some-pointer, cell-branch, child-cell, prefix-same, hop-same, child-same, root-kid}
+use Rattle.cache.proofs.Shape.{hangs, branch-full, branch-short, branch-length}
 
 kid-node : {x y : ℕ} {b d : Bool} → Kid x b ≡ Kid y d → x ≡ y
 kid-node e = cc

@@ -1,16 +1,15 @@
 -- The numbers of nodes and cells, and what of the slots a node and a cell depend on. Assumes nothing.
-use mathlib.Core.Path.{_≡_, refl, sym, ap, ap₂, _∙_}
-use mathlib.Core.Bool.{Bool, true, false, cond}
-use mathlib.Core.Logic.{_⊎_, inl, inr}
-use mathlib.Core.Option.{Option, none, some, Option·none-ne-some}
-use Prim.Native.Nat.{ℕ, zero, suc, _+_, _*_, _/_, _%_, _≤_, _<_}
+use mathlib.Core.Path.{_≡_, refl, sym, ap, _∙_}
+use mathlib.Core.Bool.{Bool, true, false}
+use mathlib.Core.Option.{none, some, Option·none-ne-some}
+use Prim.Native.Nat.{ℕ, zero, suc, _+_, _*_, _/_, _%_, _<_}
 use native.Mathlib.Omega.{arith}
-use lib.ListN.{length, take}
-use Rattle.prefix.specs.Bits.{Bits, one?, digit}
+use lib.ListN.{take}
+use Rattle.prefix.specs.Bits.{one?, digit}
 use Rattle.prefix.proofs.BitLaws.{digit-one}
 use Rattle.trie.specs.Trie.{Cell, Root, Kid, Inside}
 use Rattle.cache.specs.Slots.{Cache, entryNode, branchNode, cellOf, rootCell}
-use Rattle.cache.specs.Sound.{prefixAt, hopAt, pointer, childAt, cellAt, Slot, Live}
+use Rattle.cache.specs.Sound.{prefixAt, hopAt, pointer, childAt, cellAt}
 
 -- ---- nodes
 

@@ -2,7 +2,7 @@
 use mathlib.Core.Path.{_≡_, refl, sym, ap, _∙_, subst}
 use mathlib.Core.List.{List, [], _∷_, _++_, map, List·Memᴰ, List·Memᴰ·head, List·Memᴰ·tail, List·Memᴰ·not-nil, List·Memᴰ·cases-cons, Memᴰ·of-map}
 use mathlib.Core.Logic.{_⊎_, inl, inr}
-use Prim.Native.Nat.{ℕ, zero, suc}
+use Prim.Native.Nat.{ℕ, suc}
 use native.Mathlib.Decide.{ℕ-discrete}
 use lib.ListN.{length}
 use Rattle.trie.proofs.Insertions.{upd, upd-same, upd-other}
@@ -141,6 +141,17 @@ without-gone k (x ∷ l) d m = go (ℕ-discrete x k) m (without-gone k l (d .1))
     go : (e : Dec (x ≡ k)) → List·Memᴰ k (elim e [ yes e ↦ l | no n ↦ x ∷ without k l ]) → ¬ List·Memᴰ k (without k l) → ⊥
     go (yes e) m rec = d .0 (subst (λ (i : ℕ). List·Memᴰ i l) (sym e) m)
     go (no n) m rec = sub n (List·Memᴰ·cases-cons m) rec
+
+pub without-keep : (k : ℕ) (l : List ℕ) (a : ℕ) → ¬ (a ≡ k) → List·Memᴰ a l → List·Memᴰ a (without k l)
+unfolding without
+without-keep k [] a n m = m
+without-keep k (x ∷ l) a n m = go (ℕ-discrete x k) (List·Memᴰ·cases-cons m) (λ h. without-keep k l a n h)
+  where
+    go : (d : Dec (x ≡ k)) → (a ≡ x) ⊎ List·Memᴰ a l → (List·Memᴰ a l → List·Memᴰ a (without k l)) → List·Memᴰ a (elim d [ yes e ↦ l | no n ↦ x ∷ without k l ])
+    go (yes e) (inl z) rec = absurd (n (z ∙ e))
+    go (yes e) (inr h) rec = h
+    go (no q) (inl z) rec = List·Memᴰ·head z
+    go (no q) (inr h) rec = List·Memᴰ·tail (rec h)
 
 pub without-length : (k : ℕ) (l : List ℕ) → List·Memᴰ k l → suc (length (without k l)) ≡ length l
 unfolding without

@@ -1,21 +1,20 @@
 -- What soundness says of the slots' numbers, and that no two entries overlap. Assumes nothing.
-use mathlib.Core.Path.{_≡_, refl, sym, ap, _∙_, subst}
+use mathlib.Core.Path.{_≡_, sym, ap, _∙_}
 use mathlib.Core.Bool.{Bool, true, false}
 use mathlib.Core.Logic.{_⊎_, inl, inr}
-use mathlib.Core.Option.{Option, none, some, Option·none-ne-some}
-use Prim.Native.Nat.{ℕ, zero, suc, _+_, _*_, _/_, _%_, _≤_, _<_}
+use mathlib.Core.Option.{Option·none-ne-some}
+use Prim.Native.Nat.{ℕ, _/_, _≤_, _<_}
 use native.Mathlib.Decide.{decLt}
 use native.Mathlib.Omega.{arith}
-use lib.ListN.{length, take}
+use lib.ListN.{length}
 use lib.Seq.{take-all}
-use Rattle.prefix.specs.Bits.{Bits, one?, digit}
 use Rattle.prefix.specs.Prefix.{overlap, _⊑_, Below}
 use Rattle.prefix.proofs.Order.{⊑-refl, ⊑-cases, take-⊑, take-len}
 use Rattle.prefix.proofs.Tests.{⊑-apart}
-use Rattle.trie.specs.Trie.{Cell, Root, Kid, Inside, Fits, Sound}
+use Rattle.trie.specs.Trie.{Inside, Fits}
 use Rattle.trie.proofs.Descent.{inject, root-least, under}
 use Rattle.cache.specs.Slots.{Cache, entryNode, branchNode, cellOf, rootCell}
-use Rattle.cache.specs.Sound.{prefixAt, hopAt, pointer, childAt, cellAt, trie, Slot, Live, InUse, SoundCache}
+use Rattle.cache.specs.Sound.{prefixAt, childAt, cellAt, trie, Slot, Live, InUse, SoundCache}
 use Rattle.cache.proofs.Nodes.{Node, is-entry, is-branch, node, prefix-entry, prefix-branch, hop-branch, child-entry, child-branch, pointer-some, some-pointer, cell-root, cell-suc, child-cell, cell-inj}
 
 -- ---- cells in use

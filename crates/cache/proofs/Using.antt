@@ -2,17 +2,15 @@
 use mathlib.Core.Path.{_≡_, refl, sym, ap, _∙_, subst, fun-ext}
 use mathlib.Core.Bool.{Bool}
 use mathlib.Core.List.{List, [], _∷_, _++_, map, map-map, map-append, List·Memᴰ, List·Memᴰ·head, List·Memᴰ·tail}
-use mathlib.Core.Logic.{_⊎_, inl, inr}
 use mathlib.Core.Option.{none, some, Option·some-ne-none}
-use Prim.Native.Nat.{ℕ, zero, suc, _+_, _*_, _/_, _≤_, _<_}
+use Prim.Native.Nat.{ℕ, suc}
 use native.Mathlib.Decide.{ℕ-discrete}
-use native.Mathlib.Omega.{arith}
 use Rattle.prefix.specs.Bits.{Bits}
 use Rattle.model.specs.Model.{Entry}
-use Rattle.trie.specs.Trie.{Cell, Root, Kid, Trie, Inside, Fits, Points, Owned, Sound, Branchy}
-use Rattle.trie.proofs.Insertions.{upd, upd-same, upd-other}
+use Rattle.trie.specs.Trie.{Cell, Root, Kid, Trie, Fits, Sound, Branchy}
+use Rattle.trie.proofs.Insertions.{upd-same, upd-other}
 use Rattle.trie.proofs.Pigeonhole.{Distinct}
-use Rattle.cache.specs.Slots.{Cache, entryNode, branchNode, setHop, setPrev, setNext}
+use Rattle.cache.specs.Slots.{Cache, setHop, setPrev, setNext}
 use Rattle.cache.specs.Sound.{prefixAt, hopAt, childAt, cellAt, trie, Slot, Live, Ring, SoundCache, entryOf, order, entries}
 use Rattle.cache.specs.Changes.{unlink, pushFront, toFront, moveLinks}
 use Rattle.cache.proofs.Nodes.{Node, is-entry, is-branch, node, hop-entry, hop-branch}

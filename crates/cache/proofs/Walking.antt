@@ -1,28 +1,26 @@
 -- The walk by an address stops at the entry that contains it, or at one that has the most in common with it. Assumes nothing.
-use mathlib.Core.Path.{_≡_, refl, sym, ap, _∙_, subst}
-use mathlib.Core.Bool.{Bool, true, false, cond, _&&_}
+use mathlib.Core.Path.{_≡_, refl, ap, _∙_, subst}
+use mathlib.Core.Bool.{Bool, true, false, _&&_}
 use mathlib.Core.List.{[], _∷_}
 use mathlib.Core.Logic.{_⊎_, inl, inr}
-use mathlib.Core.Option.{Option, none, some}
-use Prim.Native.Nat.{ℕ, zero, suc, _+_, _*_, _/_, _%_, _≤_, _<_}
+use Prim.Native.Nat.{ℕ, zero, suc, _+_, _/_, _%_, _≤_, _<_}
 use native.Mathlib.Nat.{not-suc-le-zero, le-of-suc-le-suc}
-use native.Mathlib.Decide.{decLe, decLt, ℕ-discrete}
+use native.Mathlib.Decide.{decLe, decLt}
 use native.Mathlib.Omega.{arith}
-use lib.ListN.{length, take, getD}
-use lib.Dec.{leb}
+use lib.ListN.{length, getD}
 use borrow.Author.Tests.{le-leb, lt-leb}
-use Rattle.prefix.specs.Bits.{Bits, one?, digit}
+use Rattle.prefix.specs.Bits.{Bits, one?}
 use Rattle.prefix.specs.Prefix.{common, shared, _⊑_, ⊑nil, ⊑cons, Below, here, there}
 use Rattle.prefix.proofs.Order.{⊑-refl, ⊑-trans, ⊑-length, ⊑-by-length, ⊑-total, below-⊑, below-<, below-trans, below-by-length, take-⊑}
 use Rattle.prefix.proofs.Common.{common-sym, shared-left, shared-right, shared-great, shared-length, le-common, common-⊑}
 use Rattle.prefix.proofs.Booleans.{is-false, clash}
-use Rattle.trie.specs.Trie.{Cell, Root, Kid, Inside, Fits}
+use Rattle.trie.specs.Trie.{Cell, Root, Kid, Fits}
 use Rattle.trie.proofs.Placing.{through}
 use Rattle.cache.specs.Slots.{Cache, entryNode, branchNode, cellOf, rootCell}
-use Rattle.cache.specs.Sound.{prefixAt, pointer, childAt, cellAt, trie, Slot, Live, InUse, SoundCache}
+use Rattle.cache.specs.Sound.{prefixAt, pointer, cellAt, trie, Slot, Live, InUse, SoundCache}
 use Rattle.cache.specs.Changes.{passes, towards, walk, find}
 use Rattle.cache.proofs.Nodes.{Node, is-entry, is-branch, node, digit-small, prefix-entry, prefix-branch, pointer-some, child-cell, cell-root, cell-branch}
-use Rattle.cache.proofs.Shape.{Pointed, pointed, hangs, root-full, branch-full, inside-cell, apart, branch-short, branch-length, prefix-slot}
+use Rattle.cache.proofs.Shape.{pointed, hangs, root-full, branch-full, inside-cell, apart, branch-short, branch-length, prefix-slot}
 
 -- ---- the walk, as a loop takes it: start, one step, and the two ends
 

@@ -1,12 +1,11 @@
 -- What the calls do to the slots: the walk to the entry nearest to an address, and the changes, each a few stores. Assumes nothing.
-use mathlib.Core.Path.{_≡_}
 use mathlib.Core.Bool.{Bool, true, false, not, cond, _&&_}
-use Prim.Native.Nat.{ℕ, zero, suc, _+_, _*_, _/_, _%_}
+use Prim.Native.Nat.{ℕ, zero, suc, _/_, _%_}
 use lib.ListN.{length, getD}
 use lib.Dec.{leb, eqb}
-use Rattle.prefix.specs.Bits.{Bits, one?, digit}
+use Rattle.prefix.specs.Bits.{Bits, one?}
 use Rattle.prefix.specs.Prefix.{common}
-use Rattle.cache.specs.Slots.{Cache, entryNode, branchNode, cellOf, rootCell, setEntry, setHop, setBranch, setChild, setUp, setPrev, setNext}
+use Rattle.cache.specs.Slots.{Cache, entryNode, branchNode, cellOf, rootCell, setEntry, setBranch, setChild, setUp, setPrev, setNext}
 
 -- ---- the walk by an address
 

@@ -2,7 +2,7 @@
 -- of the slots that it names. All of them together are soundness. Assumes nothing.
 use mathlib.Core.Path.{_≡_}
 use mathlib.Core.Bool.{Bool, false, cond}
-use Prim.Native.Nat.{ℕ, zero, suc, _/_, _%_, _≤_, _<_}
+use Prim.Native.Nat.{ℕ, suc, _/_, _%_, _≤_, _<_}
 use lib.ListN.{length, getD}
 use Rattle.prefix.specs.Bits.{one?}
 use Rattle.prefix.specs.Prefix.{common}

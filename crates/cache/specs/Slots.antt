@@ -2,7 +2,7 @@
 -- branch, where two parts of the search trie divide: the branch in slot i has as its prefix the first bits of entry i. Slot 0 is the
 -- header's own: it holds the root cell, and the order of use begins and ends there. Slot 1 has an entry and no branch, every later one
 -- has both. Left out: how the values are packed into words. Assumes nothing.
-use Prim.Native.Nat.{ℕ, zero, suc, _+_, _*_, _/_, _%_}
+use Prim.Native.Nat.{ℕ, _+_, _*_}
 use native.Mathlib.Decide.{ℕ-discrete}
 use mathlib.Core.Bool.{Bool}
 use Rattle.prefix.specs.Bits.{Bits, digit}

@@ -1,16 +1,16 @@
 -- Which slots make a sound cache of n entries, and the entries that it holds, the most recently used first. Soundness is said of one
 -- slot at a time, but for the ring of use, which is said of a walk along it. Assumes nothing.
 use mathlib.Core.Path.{_≡_}
-use mathlib.Core.Bool.{Bool, true, cond}
+use mathlib.Core.Bool.{true, cond}
 use mathlib.Core.List.{List, [], _∷_, map}
 use mathlib.Core.Logic.{_⊎_}
 use mathlib.Core.Option.{Option, none, some}
-use Prim.Native.Nat.{ℕ, zero, suc, _+_, _*_, _/_, _%_, _≤_, _<_}
+use Prim.Native.Nat.{ℕ, zero, suc, _/_, _%_, _≤_, _<_}
 use lib.ListN.{take}
-use Rattle.prefix.specs.Bits.{Bits, one?, digit}
+use Rattle.prefix.specs.Bits.{Bits, one?}
 use Rattle.model.specs.Model.{Entry}
 use Rattle.trie.specs.Trie.{Cell, Root, Kid, Trie, Sound, Branchy}
-use Rattle.cache.specs.Slots.{Cache, entryNode, branchNode, cellOf, rootCell}
+use Rattle.cache.specs.Slots.{Cache, branchNode, cellOf, rootCell}
 
 -- ---- the trie of the slots
 
