@@ -15,16 +15,17 @@ use Rattle.prefix.proofs.Booleans.{is-false, clash}
 use Rattle.prefix.proofs.Tests.{contains-⊑}
 use Rattle.model.specs.Lists.{_∈_, keep, first, omit, largest, Pairwise, p-nil, p-cons}
 use Rattle.model.specs.Model.{Entry}
-use Rattle.model.specs.Demands.{NoOverlap}
+use Rattle.model.specs.Demands.{NoOverlap, NoLonger}
 use Rattle.model.proofs.ListLaws.{le-largest, largest-in, Pairwise-map}
 use Rattle.trie.proofs.Pigeonhole.{Distinct}
 use Rattle.cache.specs.Slots.{Cache}
 use Rattle.cache.specs.Sound.{Slot, SoundCache, entryOf, order, entries}
 use Rattle.cache.proofs.Shape.{no-overlap}
-use Rattle.cache.proofs.Walking.{Nearest}
+use Rattle.cache.proofs.Walking.{Short, Nearest}
 use Rattle.cache.proofs.Rings.{without, without-length}
 use Rattle.cache.proofs.Orders.{ring-order, in-slot, order-all, order-distinct}
 use Rattle.cache.proofs.Using.{others, oldest-slot, oldest-last}
+use Rattle.cache.proofs.Inserting.{Free}
 use Rattle.cache.proofs.Removing.{Removed}
 
 -- ---- lists of slots
@@ -95,6 +96,13 @@ module _ {n : ℕ} {c : Cache} (S : SoundCache n c) where
       go : (l : List ℕ) → Distinct l → ((a : ℕ) → a ∈ l → Slot n a) → Pairwise (λ (i j : ℕ). overlap (c .entry i) (c .entry j) ≡ false) l
       go [] d h = p-nil
       go (x ∷ l) d h = p-cons (λ y m. no-overlap S x y (h x (List·Memᴰ·head refl)) (h y (List·Memᴰ·tail m)) (λ z. d .0 (subst (λ (i : ℕ). i ∈ l) (sym z) m))) (go l (d .1) (λ a m. h a (List·Memᴰ·tail m)))
+
+  -- what the model says of all entries holds of all slots
+  pub entries-free : (P : Bits) → ((E : Entry) → E ∈ entries n c → overlap P (E .prefix) ≡ false) → Free n c P
+  entries-free P h k l = h (entryOf c k) (slot-entry k l)
+
+  pub entries-short : (X : Bits) → NoLonger (length X) (entries n c) → Short n c X
+  entries-short X h k l = h (entryOf c k) (slot-entry k l)
 
   -- a test that the entry of slot k passes and no other
   module _ (test : Entry → Bool) (k : ℕ) (h : Slot n k) (yes-k : test (entryOf c k) ≡ true) (only : (i : ℕ) → Slot n i → test (entryOf c i) ≡ true → i ≡ k) where

@@ -10,3 +10,5 @@ pub mod Removing
 pub mod Holding
 pub mod Carrying
 pub mod Checking
+pub mod Stores
+pub mod Agreeing

@@ -11,7 +11,7 @@ use Rattle.trie.proofs.Pigeonhole.{Distinct, all-there}
 use Rattle.cache.specs.Slots.{Cache}
 use Rattle.cache.specs.Sound.{Slot, along, Ring, stretch, order}
 use Rattle.cache.specs.Changes.{unlink, pushFront, toFront, moveLinks}
-use Rattle.cache.proofs.Rings.{Chain, Loop, mem-ne, loop-same, loop-distinct, without, without-sub, without-gone, without-length, unlink-loop, push-loop, move-loop}
+use Rattle.cache.proofs.Rings.{Chain, Loop, mem-ne, pred-in, succ-in, back-forth, forth-back, loop-same, loop-distinct, without, without-sub, without-gone, without-length, unlink-loop, push-loop, move-loop}
 
 -- l is the order of use of n entries
 pub record Order (n : ℕ) (c : Cache) (l : List ℕ) : Type 0 where
@@ -22,6 +22,10 @@ pub record Order (n : ℕ) (c : Cache) (l : List ℕ) : Type 0 where
 -- ---- the ring is such a list, and no other is
 
 module _ (c : Cache) where
+  along-start : along c 0 0 ≡ 0
+  unfolding along
+  along-start = refl
+
   along-next : (a k : ℕ) → along c (c .next a) k ≡ along c a (suc k)
   unfolding along
   along-next a zero = refl
@@ -144,6 +148,48 @@ order-distinct o = loop-distinct (o .loop)
 
 pub order-all : {n : ℕ} {c : Cache} {l : List ℕ} → Order n c l → (k : ℕ) → Slot n k → List·Memᴰ k l
 order-all {n} {c} {l} o k h = all-slots n l (order-distinct o) (o .loop .outside) (o .below) (o .size) k h
+
+-- the neighbours of a slot, and of slot 0
+pub record Linked (n : ℕ) (c : Cache) (s : ℕ) : Type 0 where
+  pub next-low : c .next s ≤ n
+  pub prev-low : c .prev s ≤ n
+  pub there-back : c .prev (c .next s) ≡ s
+  pub back-there : c .next (c .prev s) ≡ s
+
+pub ring-linked : {n : ℕ} {c : Cache} → Ring n c → (s : ℕ) → s ≤ n → Linked n c s
+ring-linked {n} {c} R s h = record {
+  next-low = next-low (succ-in c 0 (order n c) 0 s (o .loop .chain) (in-ring (ℕ-discrete s 0)));
+  prev-low = prev-low (ℕ-discrete s 0);
+  there-back = back-forth c 0 (order n c) 0 s (o .loop .chain) (in-ring (ℕ-discrete s 0));
+  back-there = forth-back c 0 (order n c) 0 s (o .loop .chain) (at (ℕ-discrete s 0));
+}
+  where
+    o : Order n c (order n c)
+    o = ring-order R
+
+    in-ring : Dec (s ≡ 0) → List·Memᴰ s (0 ∷ order n c)
+    in-ring (yes e) = List·Memᴰ·head e
+    in-ring (no ne) = List·Memᴰ·tail (order-all o s (omega arith))
+
+    at : Dec (s ≡ 0) → List·Memᴰ s (order n c) ⊎ (s ≡ 0)
+    at (yes e) = inr e
+    at (no ne) = inl (order-all o s (omega arith))
+
+    next-low : List·Memᴰ (c .next s) (order n c) ⊎ (c .next s ≡ 0) → c .next s ≤ n
+    next-low (inl m) = o .below (c .next s) m
+    next-low (inr e) = omega arith
+
+    before : (a : ℕ) → (a ≡ 0) ⊎ List·Memᴰ a (order n c) → a ≤ n
+    before a (inl e) = omega arith
+    before a (inr m) = o .below a m
+
+    last : (k : ℕ) → k ≤ n → along c 0 k ≤ n
+    last zero l = omega (arith, along-start c)
+    last (suc k) l = R .within k (omega arith)
+
+    prev-low : Dec (s ≡ 0) → c .prev s ≤ n
+    prev-low (yes e) = omega (arith, last n (omega arith), ap (c .prev) e, ap (c .prev) (R .back), R .undone n (omega arith))
+    prev-low (no ne) = before (c .prev s) (List·Memᴰ·cases-cons (pred-in c 0 (order n c) 0 s (o .loop .chain) (order-all o s (omega arith))))
 
 pub order-same : {n : ℕ} {c : Cache} {l : List ℕ} (w : Cache) → w .next ≡ c .next → w .prev ≡ c .prev → Order n c l → Order n w l
 order-same {n} {c} {l} w e f o = record { loop = loop-same c w l e f (o .loop); below = o .below; size = o .size }

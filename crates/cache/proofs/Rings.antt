@@ -52,7 +52,7 @@ module _ (c : Cache) where
       go (inr q) rec = tail (rec q)
 
   -- back and forth
-  back-forth : (a : ℕ) (l : List ℕ) (z k : ℕ) → Chain c a l z → List·Memᴰ k (a ∷ l) → c .prev (c .next k) ≡ k
+  pub back-forth : (a : ℕ) (l : List ℕ) (z k : ℕ) → Chain c a l z → List·Memᴰ k (a ∷ l) → c .prev (c .next k) ≡ k
   back-forth a [] z k h m = go (List·Memᴰ·cases-cons m)
     where
       go : (k ≡ a) ⊎ List·Memᴰ k [] → c .prev (c .next k) ≡ k
@@ -64,7 +64,7 @@ module _ (c : Cache) where
       go (inl e) rec = rw (e, h .0) (h .1)
       go (inr q) rec = rec q
 
-  forth-back : (a : ℕ) (l : List ℕ) (z k : ℕ) → Chain c a l z → List·Memᴰ k l ⊎ (k ≡ z) → c .next (c .prev k) ≡ k
+  pub forth-back : (a : ℕ) (l : List ℕ) (z k : ℕ) → Chain c a l z → List·Memᴰ k l ⊎ (k ≡ z) → c .next (c .prev k) ≡ k
   forth-back a [] z k h (inl q) = absurd (List·Memᴰ·not-nil q)
   forth-back a [] z k h (inr e) = rw (e, h .1) (h .0)
   forth-back a (b ∷ l) z k h (inr e) = forth-back b l z k (h .2) (inr e)
@@ -101,7 +101,7 @@ chain-map c w f a [] z h n p = (n a (List·Memᴰ·head refl) ∙ ap f (h .0), p
 chain-map c w f a (b ∷ l) z h n p =
     (n a (List·Memᴰ·head refl) ∙ ap f (h .0), p b (inl (List·Memᴰ·head refl)) ∙ ap f (h .1), chain-map c w f b l z (h .2) (λ x m. n x (List·Memᴰ·tail m)) (λ x m. p x (later m)))
 
-chain-ext : (c w : Cache) (a : ℕ) (l : List ℕ) (z : ℕ) → Chain c a l z → ((x : ℕ) → List·Memᴰ x (a ∷ l) → w .next x ≡ c .next x)
+pub chain-ext : (c w : Cache) (a : ℕ) (l : List ℕ) (z : ℕ) → Chain c a l z → ((x : ℕ) → List·Memᴰ x (a ∷ l) → w .next x ≡ c .next x)
     → ((x : ℕ) → List·Memᴰ x l ⊎ (x ≡ z) → w .prev x ≡ c .prev x) → Chain w a l z
 chain-ext c w a [] z h n p = (n a (List·Memᴰ·head refl) ∙ h .0, p z (inr refl) ∙ h .1)
 chain-ext c w a (b ∷ l) z h n p =

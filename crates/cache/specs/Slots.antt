@@ -36,78 +36,22 @@ rootCell = 0
 -- ---- one value changed
 
 unfoldable pub setEntry : Cache → ℕ → Bits → ℕ → Cache
-setEntry c i p h = record {
-  entry = upd ℕ-discrete (c .entry) i p;
-  hop = upd ℕ-discrete (c .hop) i h;
-  branch = c .branch;
-  child = c .child;
-  up = c .up;
-  prev = c .prev;
-  next = c .next;
-}
+setEntry c i p h = record { entry = upd ℕ-discrete (c .entry) i p; hop = upd ℕ-discrete (c .hop) i h; branch = c .branch; child = c .child; up = c .up; prev = c .prev; next = c .next }
 
 unfoldable pub setHop : Cache → ℕ → ℕ → Cache
-setHop c i h = record {
-  entry = c .entry;
-  hop = upd ℕ-discrete (c .hop) i h;
-  branch = c .branch;
-  child = c .child;
-  up = c .up;
-  prev = c .prev;
-  next = c .next;
-}
+setHop c i h = record { entry = c .entry; hop = upd ℕ-discrete (c .hop) i h; branch = c .branch; child = c .child; up = c .up; prev = c .prev; next = c .next }
 
 unfoldable pub setBranch : Cache → ℕ → ℕ → Cache
-setBranch c i m = record {
-  entry = c .entry;
-  hop = c .hop;
-  branch = upd ℕ-discrete (c .branch) i m;
-  child = c .child;
-  up = c .up;
-  prev = c .prev;
-  next = c .next;
-}
+setBranch c i m = record { entry = c .entry; hop = c .hop; branch = upd ℕ-discrete (c .branch) i m; child = c .child; up = c .up; prev = c .prev; next = c .next }
 
 unfoldable pub setChild : Cache → ℕ → ℕ → Cache
-setChild c cell x = record {
-  entry = c .entry;
-  hop = c .hop;
-  branch = c .branch;
-  child = upd ℕ-discrete (c .child) cell x;
-  up = c .up;
-  prev = c .prev;
-  next = c .next;
-}
+setChild c cell x = record { entry = c .entry; hop = c .hop; branch = c .branch; child = upd ℕ-discrete (c .child) cell x; up = c .up; prev = c .prev; next = c .next }
 
 unfoldable pub setUp : Cache → ℕ → ℕ → Cache
-setUp c x cell = record {
-  entry = c .entry;
-  hop = c .hop;
-  branch = c .branch;
-  child = c .child;
-  up = upd ℕ-discrete (c .up) x cell;
-  prev = c .prev;
-  next = c .next;
-}
+setUp c x cell = record { entry = c .entry; hop = c .hop; branch = c .branch; child = c .child; up = upd ℕ-discrete (c .up) x cell; prev = c .prev; next = c .next }
 
 unfoldable pub setPrev : Cache → ℕ → ℕ → Cache
-setPrev c i s = record {
-  entry = c .entry;
-  hop = c .hop;
-  branch = c .branch;
-  child = c .child;
-  up = c .up;
-  prev = upd ℕ-discrete (c .prev) i s;
-  next = c .next;
-}
+setPrev c i s = record { entry = c .entry; hop = c .hop; branch = c .branch; child = c .child; up = c .up; prev = upd ℕ-discrete (c .prev) i s; next = c .next }
 
 unfoldable pub setNext : Cache → ℕ → ℕ → Cache
-setNext c i s = record {
-  entry = c .entry;
-  hop = c .hop;
-  branch = c .branch;
-  child = c .child;
-  up = c .up;
-  prev = c .prev;
-  next = upd ℕ-discrete (c .next) i s;
-}
+setNext c i s = record { entry = c .entry; hop = c .hop; branch = c .branch; child = c .child; up = c .up; prev = c .prev; next = upd ℕ-discrete (c .next) i s }

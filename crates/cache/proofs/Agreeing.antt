@@ -1,0 +1,74 @@
+-- Only the values in use count: a cache that agrees with a sound one on them is sound and holds the same entries. Assumes nothing.
+use mathlib.Core.Path.{_≡_, sym, ap, ap₂, _∙_}
+use mathlib.Core.List.{map, List·Memᴰ, List·Memᴰ·cases-cons}
+use mathlib.Core.Logic.{_⊎_, inl, inr}
+use Prim.Native.Nat.{ℕ, zero, suc, _/_, _≤_, _<_}
+use native.Mathlib.Omega.{arith}
+use lib.ListN.{take}
+use Rattle.prefix.specs.Bits.{Bits}
+use Rattle.trie.specs.Trie.{Cell, Root, Kid, Inside, Fits}
+use Rattle.cache.specs.Slots.{Cache, entryNode, branchNode}
+use Rattle.cache.specs.Sound.{prefixAt, hopAt, childAt, cellAt, trie, Slot, Live, InUse, SoundCache, entryOf, order, entries}
+use Rattle.cache.proofs.Nodes.{Node, is-entry, is-branch, node, prefix-entry, prefix-branch, hop-same, child-same}
+use Rattle.cache.proofs.Shape.{cell-inside}
+use Rattle.cache.proofs.Rings.{chain-ext}
+use Rattle.cache.proofs.Orders.{Order, ring-order, order-ring, in-slot}
+use Rattle.cache.proofs.Using.{entry-path, map-same, entries-of}
+
+pub record Agree (n : ℕ) (c w : Cache) : Type 0 where
+  pub entry : (i : ℕ) → Slot n i → w .entry i ≡ c .entry i
+  pub hop : (i : ℕ) → Slot n i → w .hop i ≡ c .hop i
+  pub branch : (i : ℕ) → 1 < i → i ≤ n → w .branch i ≡ c .branch i
+  pub child : (q : ℕ) → InUse n q → w .child q ≡ c .child q
+  pub up : (x : ℕ) → Live n x → w .up x ≡ c .up x
+  pub prev : (i : ℕ) → i ≤ n → w .prev i ≡ c .prev i
+  pub next : (i : ℕ) → i ≤ n → w .next i ≡ c .next i
+
+module _ {n : ℕ} {c w : Cache} (A : Agree n c w) (S : SoundCache n c) where
+  prefix : (x : ℕ) → Live n x → prefixAt w x ≡ prefixAt c x
+  prefix x l = go (node x)
+    where
+      go : Node x → prefixAt w x ≡ prefixAt c x
+      go (is-entry i e) = rw e (prefix-entry w i ∙ A .entry i (omega arith) ∙ sym (prefix-entry c i))
+      go (is-branch i e) = rw e (prefix-branch w i ∙ ap₂ take (A .branch i (omega arith) (omega arith)) (A .entry i (omega arith)) ∙ sym (prefix-branch c i))
+
+  child : (e : Cell) → Inside (Live n) e → childAt w e ≡ childAt c e
+  child e i = child-same c w (Live n) (λ l. omega arith) e i (λ q z. A .child q (cell-inside n q (rw z at i)))
+
+  fits : (e : Cell) (p : Bits) → Inside (Live n) e → Fits (trie c) e p → Fits (trie w) e p
+  fits Root p i f = tt
+  fits (Kid a b) p l f = rw (prefix a l) f
+
+  inside : (x : ℕ) → Live n x → Inside (Live n) (cellAt (c .up x)) → Inside (Live n) (cellAt (w .up x))
+  inside x l i = rw (A .up x l) i
+
+  used : Order n w (order n c)
+  used = record {
+    loop = record { chain = chain-ext c w 0 (order n c) 0 (o .loop .chain) (λ x m. A .next x (from (List·Memᴰ·cases-cons m))) (λ x m. A .prev x (to m)); outside = o .loop .outside };
+    below = o .below;
+    size = o .size;
+  }
+    where
+      o : Order n c (order n c)
+      o = ring-order (S .ring)
+
+      from : {x : ℕ} → (x ≡ 0) ⊎ List·Memᴰ x (order n c) → x ≤ n
+      from (inl e) = omega arith
+      from {x} (inr m) = o .below x m
+
+      to : {x : ℕ} → List·Memᴰ x (order n c) ⊎ (x ≡ 0) → x ≤ n
+      to {x} (inl m) = o .below x m
+      to (inr e) = omega arith
+
+  pub agree-sound : SoundCache n w
+  agree-sound = record {
+    pointers = record {
+      points = λ e j i h. let p = S .pointers .points e j i (sym (child e i) ∙ h) in record { is-live = p .is-live; back = ap cellAt (A .up j (p .is-live)) ∙ p .back; fits = rw (prefix j (p .is-live)) (fits e (prefixAt c j) i (p .fits)) };
+      owned = λ x l. let o = S .pointers .owned x l in record { inside = inside x l (o .inside); child = ap (childAt w) (ap cellAt (A .up x l)) ∙ child (cellAt (c .up x)) (o .inside) ∙ o .child };
+    };
+    branchy = λ a l h b. let t = S .branchy a l (sym (hop-same c w a (A .hop (a / 2) (omega arith))) ∙ h) b in (t .0, child (Kid a b) l ∙ t .1);
+    ring = order-ring used;
+  }
+
+  pub agree-entries : entries n w ≡ entries n c
+  agree-entries = entries-of used ∙ map-same (entryOf w) (entryOf c) (order n c) (λ i m. let s = in-slot (ring-order (S .ring)) i m in entry-path (A .entry i s) (A .hop i s)) ∙ sym (entries-of (ring-order (S .ring)))
