@@ -18,7 +18,7 @@ use Rattle.cache.proofs.Using.{entry-path, map-same, entries-of}
 pub record Agree (n : ℕ) (c w : Cache) : Type 0 where
   pub entry : (i : ℕ) → Slot n i → w .entry i ≡ c .entry i
   pub hop : (i : ℕ) → Slot n i → w .hop i ≡ c .hop i
-  pub branch : (i : ℕ) → 1 < i → i ≤ n → w .branch i ≡ c .branch i
+  pub branch : (i : ℕ) → 1 < i → i ≤ n → w .branchLength i ≡ c .branchLength i
   pub child : (q : ℕ) → InUse n q → w .child q ≡ c .child q
   pub up : (x : ℕ) → Live n x → w .up x ≡ c .up x
   pub prev : (i : ℕ) → i ≤ n → w .prev i ≡ c .prev i

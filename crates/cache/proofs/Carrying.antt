@@ -61,5 +61,5 @@ unfolding entries order stretch
 carried [] p = record { cache = blank; sound = empty-sound blank refl refl refl; holds = refl }
   where
     blank : Cache
-    blank = record { entry = λ i. []; hop = λ i. 0; branch = λ i. 0; child = λ q. 0; up = λ x. 0; prev = λ i. 0; next = λ i. 0 }
+    blank = record { entry = λ i. []; hop = λ i. 0; branchLength = λ i. 0; child = λ q. 0; up = λ x. 0; prev = λ i. 0; next = λ i. 0 }
 carried (E ∷ es) (p-cons h p) = more E es h (carried es p)

@@ -25,40 +25,40 @@ use Rattle.cache.proofs.Orders.{ring-order, order-ring, in-slot, order-
 
 -- ---- one side of a branch
 
-module _ (c : Cache) (i y : ℕ) (b : Bool) (short : c .branch i < length (c .entry i)) where
+module _ (c : Cache) (i y : ℕ) (b : Bool) (short : c .branchLength i < length (c .entry i)) where
   abbrev p : Bits
-  p = take (c .branch i) (c .entry i)
+  p = take (c .branchLength i) (c .entry i)
 
-  p-length : length p ≡ c .branch i
-  p-length = take-len (c .branch i) (c .entry i) (omega arith)
+  p-length : length p ≡ c .branchLength i
+  p-length = take-len (c .branchLength i) (c .entry i) (omega arith)
 
-  goes : p ⊑ c .entry (y / 2) → c .branch i < length (c .entry (y / 2)) → Below p (getD (c .entry (y / 2)) (c .branch i) false) (c .entry (y / 2))
+  goes : p ⊑ c .entry (y / 2) → c .branchLength i < length (c .entry (y / 2)) → Below p (getD (c .entry (y / 2)) (c .branchLength i) false) (c .entry (y / 2))
   goes h l = subst (λ (m : ℕ). Below p (getD (c .entry (y / 2)) m false) (c .entry (y / 2))) p-length (goes-on h (omega (arith, p-length)))
 
-  side-below : c .branch i < length (prefixAt c y) → c .branch i ≤ common (c .entry i) (c .entry (y / 2)) → getD (c .entry (y / 2)) (c .branch i) false ≡ b → Below p b (prefixAt c y)
+  side-below : c .branchLength i < length (prefixAt c y) → c .branchLength i ≤ common (c .entry i) (c .entry (y / 2)) → getD (c .entry (y / 2)) (c .branchLength i) false ≡ b → Below p b (prefixAt c y)
   side-below l a s =
-      let h : p ⊑ c .entry (y / 2) = common-⊑ (take-⊑ (c .branch i) (c .entry i)) (omega (arith, p-length)) in
+      let h : p ⊑ c .entry (y / 2) = common-⊑ (take-⊑ (c .branchLength i) (c .entry i)) (omega (arith, p-length)) in
       below-by-length (subst (λ (d : Bool). Below p d (c .entry (y / 2))) s (goes h (omega (arith, ⊑-length (prefix-slot c y))))) (prefix-slot c y) (omega (arith, p-length))
 
-  below-side : Below p b (prefixAt c y) → (c .branch i < length (prefixAt c y)) × (c .branch i ≤ common (c .entry i) (c .entry (y / 2))) × (getD (c .entry (y / 2)) (c .branch i) false ≡ b)
+  below-side : Below p b (prefixAt c y) → (c .branchLength i < length (prefixAt c y)) × (c .branchLength i ≤ common (c .entry i) (c .entry (y / 2))) × (getD (c .entry (y / 2)) (c .branchLength i) false ≡ b)
   below-side h =
       let f = below-trans h (prefix-slot c y) in (
         omega (arith, below-< h, p-length),
-        omega (arith, le-common (take-⊑ (c .branch i) (c .entry i)) (below-⊑ f), p-length),
+        omega (arith, le-common (take-⊑ (c .branchLength i) (c .entry i)) (below-⊑ f), p-length),
         below-bit (goes (below-⊑ f) (omega (arith, below-< f, p-length))) f,
       )
 
 -- the length of a live node's prefix
-length-at : {n : ℕ} (c : Cache) → ((i : ℕ) → 1 < i → i ≤ n → c .branch i < length (c .entry i)) → (x : ℕ) → Live n x → length (prefixAt c x) ≡ lengthAt c x
+length-at : {n : ℕ} (c : Cache) → ((i : ℕ) → 1 < i → i ≤ n → c .branchLength i < length (c .entry i)) → (x : ℕ) → Live n x → length (prefixAt c x) ≡ lengthAt c x
 unfolding lengthAt
 length-at {n} c short x l = go (node x)
   where
-    go : Node x → length (prefixAt c x) ≡ cond (one? (x % 2)) (c .branch (x / 2)) (length (c .entry (x / 2)))
+    go : Node x → length (prefixAt c x) ≡ cond (one? (x % 2)) (c .branchLength (x / 2)) (length (c .entry (x / 2)))
     go (is-entry i e) = let q : x % 2 ≡ 0 = omega arith in let r : x / 2 ≡ i = omega arith in rw (q, r, e, prefix-entry c i)
     go (is-branch i e) =
         let q : x % 2 ≡ 1 = omega arith in
         let r : x / 2 ≡ i = omega arith in
-        rw (q, r, e, prefix-branch c i) (take-len (c .branch i) (c .entry i) (omega (arith, short i (omega arith) (omega arith))))
+        rw (q, r, e, prefix-branch c i) (take-len (c .branchLength i) (c .entry i) (omega (arith, short i (omega arith) (omega arith))))
 
 -- ---- the slots
 

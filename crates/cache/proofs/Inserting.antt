@@ -18,7 +18,7 @@ use Rattle.trie.specs.Trie.{Cell, Root, Kid, Trie, Inside, Fits, Sound, Branchy
 use Rattle.trie.proofs.Cutting.{fits-trans}
 use Rattle.trie.proofs.Growing.{Grown, grown-sound, grown-branchy, branchy-old, full-old}
 use Rattle.trie.proofs.Insertions.{upd, upd-same, upd-other}
-use Rattle.cache.specs.Slots.{Cache, entryNode, branchNode, cellOf, rootCell, setEntry, setBranch, setChild, setUp, setPrev, setNext}
+use Rattle.cache.specs.Slots.{Cache, entryNode, branchNode, cellOf, rootCell, setEntry, setBranchLength, setChild, setUp, setPrev, setNext}
 use Rattle.cache.specs.Sound.{prefixAt, hopAt, pointer, childAt, cellAt, trie, Slot, Live, InUse, SoundCache, entryOf, order, entries}
 use Rattle.cache.specs.Changes.{passes, find, pushFront, insertFirst, hang, insertAt}
 use Rattle.cache.proofs.Nodes.{prefix-entry, prefix-branch, hop-entry, hop-branch, child-entry, child-branch, pointer-some, pointer-none, cell-root, cell-branch, child-cell, prefix-same, hop-same, child-same}
@@ -73,11 +73,11 @@ module _ {n : ℕ} {c : Cache} (S : SoundCache n c) (q : ℕ) (qi : InUse n q) (
   px = pointed S q qi full
 
   w-entry : w .child (cellOf (suc n) (not d)) ≡ entryNode (suc n)
-  unfolding hang setEntry setBranch setChild setUp
+  unfolding hang setEntry setBranchLength setChild setUp
   w-entry = upd-other _ _ _ _ (cellOf (suc n) (not d)) (λ z. omega (arith, cell-low n q qi)) ∙ upd-same _ _ _ _ (cellOf (suc n) (not d)) refl
 
   u-side : u .child (cellOf (suc n) d) ≡ c .child q
-  unfolding hang setEntry setBranch setChild setUp
+  unfolding hang setEntry setBranchLength setChild setUp
   u-side =
       let k = digit-not d in
       upd-other _ _ _ _ (cellOf (suc n) d) (λ z. omega arith) ∙ upd-other _ _ _ _ (cellOf (suc n) d) (λ z. omega (arith, cell-low n q qi))
@@ -91,7 +91,7 @@ module _ {n : ℕ} {c : Cache} (S : SoundCache n c) (q : ℕ) (qi : InUse n q) (
   u-full = child-branch u (suc n) d ∙ ap pointer u-side ∙ pointer-some (c .child q) full
 
   g₁ : Grown (Live n) Mid (trie c) (trie u) (cellAt q) (branchNode (suc n)) L none
-  unfolding hang setEntry setBranch setChild setUp
+  unfolding hang setEntry setBranchLength setChild setUp
   g₁ = record {
     fresh = λ l. omega arith;
     live-old = λ a l. inl l;
@@ -100,7 +100,7 @@ module _ {n : ℕ} {c : Cache} (S : SoundCache n c) (q : ℕ) (qi : InUse n q) (
     prefix-old = λ a l. prefix-same c u a (upd-other _ _ _ _ (a / 2) (λ z. omega arith)) (upd-other _ _ _ _ (a / 2) (λ z. omega arith));
     prefix-new =
         prefix-branch u (suc n)
-        ∙ ap₂ take (upd-same ℕ-discrete (c .branch) (suc n) (length L) (suc n) refl) (upd-same ℕ-discrete (c .entry) (suc n) P (suc n) refl) ∙ ⊑-take (below-⊑ ln);
+        ∙ ap₂ take (upd-same ℕ-discrete (c .branchLength) (suc n) (length L) (suc n) refl) (upd-same ℕ-discrete (c .entry) (suc n) P (suc n) refl) ∙ ⊑-take (below-⊑ ln);
     hop-old = λ a l. hop-same c u a (upd-other _ _ _ _ (a / 2) (λ z. omega arith));
     hop-new = hop-branch u (suc n);
     up-old = λ a l ne. ap cellAt (upd-other _ _ _ _ a (λ z. omega arith) ∙ upd-other _ _ _ _ a (λ z. omega arith) ∙ upd-other _ _ _ _ a (λ z. ne (ap cellAt (ap (c .up) z ∙ px .knows))));
@@ -134,7 +134,7 @@ module _ {n : ℕ} {c : Cache} (S : SoundCache n c) (q : ℕ) (qi : InUse n q) (
   f₂ = rw (g₁ .prefix-new) ln
 
   g₂ : Grown Mid (Live (suc n)) (trie u) (trie w) (Kid (branchNode (suc n)) (not d)) (entryNode (suc n)) P (some H)
-  unfolding hang setEntry setBranch setChild setUp
+  unfolding hang setEntry setBranchLength setChild setUp
   g₂ = record {
     fresh = λ l. fresh l;
     live-old = λ a l. live-old a l;
@@ -182,7 +182,7 @@ module _ {n : ℕ} {c : Cache} (S : SoundCache n c) (q : ℕ) (qi : InUse n q) (
       go (inr z) = absurd (Option·some-ne-none H (sym (g₂ .hop-new) ∙ ap (hopAt w) (sym z) ∙ h))
 
   pub insert-split : Inserted n c (insertAt c (suc n) q d (length L) P H) P H
-  unfolding insertAt hang setEntry setBranch setChild setUp
+  unfolding insertAt hang setEntry setBranchLength setChild setUp
   insert-split = inserted w S (grown-sound S₁ (inr refl) f₂ g₂) hang-branchy refl refl refl refl
 
 -- ---- where the walk by its address stops is where the entry goes

@@ -17,7 +17,7 @@ use Rattle.trie.proofs.Insertions.{upd, upd-same, upd-other}
 use Rattle.trie.proofs.Cutting.{Cut, cut-sound, cut-full}
 use Rattle.trie.proofs.Moving.{Moved}
 use Rattle.trie.proofs.Removing.{cutAt, cut-at, Without}
-use Rattle.cache.specs.Slots.{Cache, entryNode, branchNode, cellOf, setEntry, setBranch, setChild, setUp, setPrev, setNext}
+use Rattle.cache.specs.Slots.{Cache, entryNode, branchNode, cellOf, setEntry, setBranchLength, setChild, setUp, setPrev, setNext}
 use Rattle.cache.specs.Sound.{prefixAt, hopAt, pointer, childAt, cellAt, trie, Slot, Live, InUse, SoundCache}
 use Rattle.cache.specs.Changes.{moveLinks, prune, moveEntry, moveBranch}
 use Rattle.cache.proofs.Nodes.{Node, is-entry, is-branch, node, digit-small, prefix-entry, prefix-branch, hop-entry, hop-branch, child-entry, child-branch, pointer-some, some-pointer, cell-branch, child-cell, prefix-same, hop-same, child-same, root-kid}
@@ -118,16 +118,16 @@ module _ {n : ℕ} {c : Cache} (S : SoundCache n c) (k j : ℕ) (b : Bool) (lk :
       cut-full T₁ live-j k₂ (Kid a y) (s .0) l (s .1) (λ z. (x, refl))
 
   -- the branch of slot k, if it has another than j's, keeps its prefix when entry j takes the place of entry k: it stands above both
-  pub relocated : 1 < k → ¬ (j ≡ k) → take (c .branch k) (c .entry j) ≡ take (c .branch k) (c .entry k)
+  pub relocated : 1 < k → ¬ (j ≡ k) → take (c .branchLength k) (c .entry j) ≡ take (c .branchLength k) (c .entry k)
   relocated h ne =
-      subst (λ (m : ℕ). take m (c .entry j) ≡ take (c .branch k) (c .entry k)) (branch-length S k h (lk .1))
+      subst (λ (m : ℕ). take m (c .entry j) ≡ take (c .branchLength k) (c .entry k)) (branch-length S k h (lk .1))
       (⊑-take (⊑-trans (go (⊑-total own below-k)) above-j) ∙ prefix-branch c k)
     where
       p : ℕ → Bits
       p = prefixAt c
 
       own : p (branchNode k) ⊑ p (entryNode k)
-      own = rw (prefix-branch c k, prefix-entry c k) (take-⊑ (c .branch k) (c .entry k))
+      own = rw (prefix-branch c k, prefix-entry c k) (take-⊑ (c .branchLength k) (c .entry k))
 
       fits-k : Below (p (branchNode j)) b (p (entryNode k))
       fits-k =
@@ -138,7 +138,7 @@ module _ {n : ℕ} {c : Cache} (S : SoundCache n c) (k j : ℕ) (b : Bool) (lk :
       below-k = below-⊑ fits-k
 
       above-j : p (branchNode j) ⊑ c .entry j
-      above-j = rw (prefix-branch c j) (take-⊑ (c .branch j) (c .entry j))
+      above-j = rw (prefix-branch c j) (take-⊑ (c .branchLength j) (c .entry j))
 
       live-b : Live n (branchNode k)
       live-b = omega arith
@@ -162,7 +162,7 @@ module _ {n : ℕ} {c : Cache} (S : SoundCache n c) (k j : ℕ) (b : Bool) (lk :
 -- ---- the entry of slot s goes to slot t
 
 module _ (live : ℕ → Type 0) (c : Cache) (s t : ℕ) (pos : 0 < t) (one : ¬ live 1) (free : ¬ live (entryNode t))
-    (ok : live (branchNode t) → take (c .branch t) (c .entry s) ≡ take (c .branch t) (c .entry t)) where
+    (ok : live (branchNode t) → take (c .branchLength t) (c .entry s) ≡ take (c .branchLength t) (c .entry t)) where
   abbrev w : Cache
   w = moveEntry c s t
 
@@ -188,7 +188,7 @@ module _ (live : ℕ → Type 0) (c : Cache) (s t : ℕ) (pos : 0 < t) (one : ¬
       prefix-old a l (is-entry i e) = rw e (prefix-entry w i ∙ upd-other _ _ _ _ i (not-t i (rw e at l)) ∙ sym (prefix-entry c i))
       prefix-old a l (is-branch i e) = rw e (prefix-branch w i ∙ go (ℕ-discrete i t) ∙ sym (prefix-branch c i))
         where
-          go : Dec (i ≡ t) → take (c .branch i) (upd ℕ-discrete (c .entry) t (c .entry s) i) ≡ take (c .branch i) (c .entry i)
+          go : Dec (i ≡ t) → take (c .branchLength i) (upd ℕ-discrete (c .entry) t (c .entry s) i) ≡ take (c .branchLength i) (c .entry i)
           go (yes z) = rw (z, upd-same ℕ-discrete (c .entry) t (c .entry s) t refl) (ok (subst (λ (y : ℕ). live (branchNode y)) z (rw e at l)))
           go (no n) = rw (upd-other ℕ-discrete (c .entry) t (c .entry s) i n)
 
@@ -223,9 +223,9 @@ module _ (live : ℕ → Type 0) (c : Cache) (s t : ℕ) (S : Sound live (trie c
   not-cell r i b z = free (subst (λ (e : Cell). Inside live e) (ap cellAt z ∙ cell-branch t b pos) i)
 
   pub branch-moved : Moved live (trie c) (trie (moveBranch c s t)) (branchNode s) (branchNode t)
-  unfolding moveBranch setBranch setChild setUp
+  unfolding moveBranch setBranchLength setChild setUp
   branch-moved = record {
-    prefix-new = prefix-branch w₂ t ∙ ap₂ take (upd-same ℕ-discrete (c .branch) t (c .branch s) t refl) same ∙ sym (prefix-branch c s);
+    prefix-new = prefix-branch w₂ t ∙ ap₂ take (upd-same ℕ-discrete (c .branchLength) t (c .branchLength s) t refl) same ∙ sym (prefix-branch c s);
     prefix-old = λ a l ne. prefix-old a l (node a);
     hop-new = hop-branch w₂ t ∙ sym (hop-branch c s);
     hop-old = λ a l ne. hop-same c w₂ a refl;
@@ -239,7 +239,7 @@ module _ (live : ℕ → Type 0) (c : Cache) (s t : ℕ) (S : Sound live (trie c
     where
       prefix-old : (a : ℕ) → live a → Node a → prefixAt w₂ a ≡ prefixAt c a
       prefix-old a l (is-entry i e) = rw e (prefix-entry w₂ i ∙ sym (prefix-entry c i))
-      prefix-old a l (is-branch i e) = rw e (prefix-branch w₂ i ∙ ap (λ (m : ℕ). take m (c .entry i)) (upd-other ℕ-discrete (c .branch) t (c .branch s) i (λ z. free (subst (λ (y : ℕ). live (branchNode y)) z (rw e at l)))) ∙ sym (prefix-branch c i))
+      prefix-old a l (is-branch i e) = rw e (prefix-branch w₂ i ∙ ap (λ (m : ℕ). take m (c .entry i)) (upd-other ℕ-discrete (c .branchLength) t (c .branchLength s) i (λ z. free (subst (λ (y : ℕ). live (branchNode y)) z (rw e at l)))) ∙ sym (prefix-branch c i))
 
       not-kid : (a : ℕ) → ((b : Bool) → ¬ (cellAt (c .up a) ≡ Kid (branchNode s) b)) → (b : Bool) → ¬ (a ≡ c .child (cellOf s b))
       not-kid a n b z = n b (ap (λ (y : ℕ). cellAt (c .up y)) z ∙ kid-points b .back)

@@ -43,7 +43,7 @@ module _ (c : Cache) (i : ℕ) where
   unfolding prefixAt
   prefix-entry = rw (even i .0, even i .1)
 
-  pub prefix-branch : prefixAt c (branchNode i) ≡ take (c .branch i) (c .entry i)
+  pub prefix-branch : prefixAt c (branchNode i) ≡ take (c .branchLength i) (c .entry i)
   unfolding prefixAt
   prefix-branch = rw (odd i .0, odd i .1)
 
@@ -129,7 +129,7 @@ cell-inj (suc q) (suc r) e =
 -- ---- what a node and a cell depend on
 
 module _ (c w : Cache) where
-  pub prefix-same : (x : ℕ) → w .entry (x / 2) ≡ c .entry (x / 2) → w .branch (x / 2) ≡ c .branch (x / 2) → prefixAt w x ≡ prefixAt c x
+  pub prefix-same : (x : ℕ) → w .entry (x / 2) ≡ c .entry (x / 2) → w .branchLength (x / 2) ≡ c .branchLength (x / 2) → prefixAt w x ≡ prefixAt c x
   unfolding prefixAt
   prefix-same x e f = rw (e, f)
 

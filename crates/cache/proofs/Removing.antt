@@ -18,7 +18,7 @@ use Rattle.trie.proofs.Descent.{root-least}
 use Rattle.trie.proofs.Insertions.{upd-same, upd-other}
 use Rattle.trie.proofs.Cutting.{Renamed, renamed-sound, renamed-branchy}
 use Rattle.trie.proofs.Moving.{ren, ren-s, ren-other, moved-renamed}
-use Rattle.cache.specs.Slots.{Cache, entryNode, branchNode, cellOf, rootCell, setEntry, setBranch, setChild, setUp, setPrev, setNext}
+use Rattle.cache.specs.Slots.{Cache, entryNode, branchNode, cellOf, rootCell, setEntry, setBranchLength, setChild, setUp, setPrev, setNext}
 use Rattle.cache.specs.Sound.{prefixAt, pointer, childAt, cellAt, trie, Slot, Live, InUse, SoundCache, entryOf, order, entries}
 use Rattle.cache.specs.Changes.{unlink, moveLinks, removeOnly, prune, moveEntry, moveBranch, fillEntry, fillSlot, removeAt}
 use Rattle.cache.proofs.Nodes.{prefix-entry, pointer-none, child-cell, cell-root, cell-split}
@@ -38,7 +38,7 @@ record Open (b : Cache) (l : List ℕ) (live : ℕ → Type 0) (n h : ℕ) (plac
 
 -- slot s goes to the free slot h
 module _ {b : Cache} {l : List ℕ} {live live′ : ℕ → Type 0} {n h : ℕ} {place : ℕ → ℕ} {c : Cache} (O : Open b l live n h place c) (s : ℕ) (ls : Slot (suc n) s) (ne : ¬ (s ≡ h))
-    (one : ¬ live 1) (is : live (entryNode s)) (free : ¬ live (entryNode h)) (ok : live (branchNode h) → take (c .branch h) (c .entry s) ≡ take (c .branch h) (c .entry h))
+    (one : ¬ live 1) (is : live (entryNode s)) (free : ¬ live (entryNode h)) (ok : live (branchNode h) → take (c .branchLength h) (c .entry s) ≡ take (c .branchLength h) (c .entry h))
     (old : (a : ℕ) → live a → ¬ (a ≡ entryNode s) → live′ a) (new : live′ (entryNode h)) (inv : (a : ℕ) → live′ a → (live a × (¬ (a ≡ entryNode s))) ⊎ (a ≡ entryNode h)) where
   renamed : Renamed live live′ (trie c) (trie (moveEntry c s h)) (ren (entryNode s) (entryNode h))
   renamed = moved-renamed (O .pointers) is (entry-moved live c s h (O .hole .slot .0) one free ok) old new inv
@@ -73,7 +73,7 @@ module _ {b : Cache} {l : List ℕ} {live live′ : ℕ → Type 0} {n s : ℕ} 
   branched = moved-renamed (O .pointers) is (branch-moved live c s h (O .pointers) (O .branchy) (O .hole .slot .0) pos one is free same) old new inv
 
   open-branch : Open b l live′ n s place (moveBranch c s h)
-  unfolding moveBranch setBranch setChild setUp
+  unfolding moveBranch setBranchLength setChild setUp
   open-branch = record {
     pointers = renamed-sound (O .pointers) branched;
     branchy = renamed-branchy (O .pointers) branched (O .branchy);
@@ -138,7 +138,7 @@ module _ {n : ℕ} {c : Cache} (S : SoundCache (suc n) c) (k j : ℕ) (b : Bool)
     moved = λ i m. refl;
   }
 
-  kept : ¬ (j ≡ k) → 1 < k → take (c₁ .branch k) (c₁ .entry j) ≡ take (c₁ .branch k) (c₁ .entry k)
+  kept : ¬ (j ≡ k) → 1 < k → take (c₁ .branchLength k) (c₁ .entry j) ≡ take (c₁ .branchLength k) (c₁ .entry k)
   unfolding unlink prune setPrev setNext setChild setUp
   kept ne h = relocated S k j b lk is-up pos h ne
 

@@ -82,18 +82,18 @@ module _ {n : ℕ} {c : Cache} (S : SoundCache n c) where
   no-overlap i j li lj n = ⊑-apart (λ h. n (apart i j li lj h)) (λ h. n (sym (apart j i lj li h)))
 
   -- a branch is shorter than its slot's entry
-  pub branch-short : (i : ℕ) → 1 < i → i ≤ n → c .branch i < length (c .entry i)
-  branch-short i h k = go (decLt (c .branch i) (length (c .entry i)))
+  pub branch-short : (i : ℕ) → 1 < i → i ≤ n → c .branchLength i < length (c .entry i)
+  branch-short i h k = go (decLt (c .branchLength i) (length (c .entry i)))
     where
-      go : Dec (c .branch i < length (c .entry i)) → c .branch i < length (c .entry i)
+      go : Dec (c .branchLength i < length (c .entry i)) → c .branchLength i < length (c .entry i)
       go (yes s) = s
       go (no s) =
           let z : branchNode i ≡ entryNode i = inject (S .pointers) (branchNode i) (entryNode i) (omega arith) (omega arith)
-          (prefix-branch c i ∙ take-all (c .branch i) (c .entry i) (omega arith) ∙ sym (prefix-entry c i)) in
+          (prefix-branch c i ∙ take-all (c .branchLength i) (c .entry i) (omega arith) ∙ sym (prefix-entry c i)) in
           absurd (omega arith)
 
-  pub branch-length : (i : ℕ) → 1 < i → i ≤ n → length (prefixAt c (branchNode i)) ≡ c .branch i
-  branch-length i h k = ap length (prefix-branch c i) ∙ take-len (c .branch i) (c .entry i) (omega (arith, branch-short i h k))
+  pub branch-length : (i : ℕ) → 1 < i → i ≤ n → length (prefixAt c (branchNode i)) ≡ c .branchLength i
+  branch-length i h k = ap length (prefix-branch c i) ∙ take-len (c .branchLength i) (c .entry i) (omega (arith, branch-short i h k))
 
 -- a node's prefix is the first bits of its slot's entry
 pub prefix-slot : (c : Cache) (x : ℕ) → prefixAt c x ⊑ c .entry (x / 2)
@@ -101,4 +101,4 @@ prefix-slot c x = go (node x)
   where
     go : Node x → prefixAt c x ⊑ c .entry (x / 2)
     go (is-entry i e) = let z : x / 2 ≡ i = omega arith in rw (z, e, prefix-entry c i) (⊑-refl (c .entry i))
-    go (is-branch i e) = let z : x / 2 ≡ i = omega arith in rw (z, e, prefix-branch c i) (take-⊑ (c .branch i) (c .entry i))
+    go (is-branch i e) = let z : x / 2 ≡ i = omega arith in rw (z, e, prefix-branch c i) (take-⊑ (c .branchLength i) (c .entry i))

@@ -5,13 +5,13 @@ use Prim.Native.Nat.{ℕ}
 use native.Mathlib.Decide.{ℕ-discrete}
 use Rattle.prefix.specs.Bits.{Bits}
 use Rattle.trie.proofs.Insertions.{upd, upd-same, upd-other}
-use Rattle.cache.specs.Slots.{Cache, entryNode, branchNode, cellOf, rootCell, setEntry, setBranch, setChild, setUp, setPrev, setNext}
+use Rattle.cache.specs.Slots.{Cache, entryNode, branchNode, cellOf, rootCell, setEntry, setBranchLength, setChild, setUp, setPrev, setNext}
 use Rattle.cache.specs.Changes.{unlink, pushFront, moveLinks, insertFirst, hang, removeOnly, prune, moveEntry, moveBranch}
 
 -- two caches with the same values
-pub cache-path : {c w : Cache} → ((i : ℕ) → w .entry i ≡ c .entry i) → ((i : ℕ) → w .hop i ≡ c .hop i) → ((i : ℕ) → w .branch i ≡ c .branch i)
+pub cache-path : {c w : Cache} → ((i : ℕ) → w .entry i ≡ c .entry i) → ((i : ℕ) → w .hop i ≡ c .hop i) → ((i : ℕ) → w .branchLength i ≡ c .branchLength i)
     → ((q : ℕ) → w .child q ≡ c .child q) → ((x : ℕ) → w .up x ≡ c .up x) → ((i : ℕ) → w .prev i ≡ c .prev i) → ((i : ℕ) → w .next i ≡ c .next i) → w ≡ c
-cache-path e h b d u p n = λ i. record { entry = fun-ext e i; hop = fun-ext h i; branch = fun-ext b i; child = fun-ext d i; up = fun-ext u i; prev = fun-ext p i; next = fun-ext n i }
+cache-path e h b d u p n = λ i. record { entry = fun-ext e i; hop = fun-ext h i; branchLength = fun-ext b i; child = fun-ext d i; up = fun-ext u i; prev = fun-ext p i; next = fun-ext n i }
 
 -- the values f′ are f with that of i set to a
 pub set-value : {A : Type 0} (f f′ : ℕ → A) (i : ℕ) (a : A) → f′ i ≡ a → ((j : ℕ) → ¬ (j ≡ i) → f′ j ≡ f j) → (j : ℕ) → f′ j ≡ upd ℕ-discrete f i a j
@@ -42,7 +42,7 @@ module _ (c : Cache) where
 
   pub hang-stores : (s q : ℕ) (d : Bool) (m : ℕ) (P : Bits) (H x : ℕ) → x ≡ c .child q
       → setChild (setChild (setChild
-      (setUp (setBranch (setUp (setUp (setEntry c s P H) x (cellOf s d)) (entryNode s) (cellOf s (not d))) s m) (branchNode s) q)
+      (setUp (setBranchLength (setUp (setUp (setEntry c s P H) x (cellOf s d)) (entryNode s) (cellOf s (not d))) s m) (branchNode s) q)
       (cellOf s d) x) (cellOf s (not d)) (entryNode s)) q (branchNode s) ≡ hang c s q d m P H
   unfolding hang
   hang-stores s q d m P H x e = rw e
@@ -60,7 +60,7 @@ module _ (c : Cache) where
   entry-stores s t q e = rw e
 
   pub branch-stores : (s t x y q : ℕ) → x ≡ c .child (cellOf s false) → y ≡ c .child (cellOf s true) → q ≡ c .up (branchNode s)
-      → setUp (setBranch (setUp (setUp (setChild (setChild (setChild c (cellOf t false) x) (cellOf t true) y) q (branchNode t)) x (cellOf t false)) y (cellOf t true)) t (c .branch s)) (branchNode t) q
+      → setUp (setBranchLength (setUp (setUp (setChild (setChild (setChild c (cellOf t false) x) (cellOf t true) y) q (branchNode t)) x (cellOf t false)) y (cellOf t true)) t (c .branchLength s)) (branchNode t) q
       ≡ moveBranch c s t
   unfolding moveBranch
   branch-stores s t x y q ex ey eq = rw (ex, ey, eq)

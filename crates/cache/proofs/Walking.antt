@@ -29,17 +29,17 @@ module _ (c : Cache) (X : Bits) where
   unfolding find
   find-start = refl
 
-  pub passes-branch : (x : ℕ) → ¬ (x % 2 ≡ 0) → c .branch (x / 2) ≤ common X (c .entry (x / 2)) → passes c X x ≡ true
+  pub passes-branch : (x : ℕ) → ¬ (x % 2 ≡ 0) → c .branchLength (x / 2) ≤ common X (c .entry (x / 2)) → passes c X x ≡ true
   unfolding passes
-  passes-branch x h l = let e : x % 2 ≡ 1 = omega arith in rw (e, le-leb (c .branch (x / 2)) (common X (c .entry (x / 2))) l)
+  passes-branch x h l = let e : x % 2 ≡ 1 = omega arith in rw (e, le-leb (c .branchLength (x / 2)) (common X (c .entry (x / 2))) l)
 
   pub stops-entry : (x : ℕ) → x % 2 ≡ 0 → passes c X x ≡ false
   unfolding passes
   stops-entry x e = rw e
 
-  pub stops-miss : (x : ℕ) → common X (c .entry (x / 2)) < c .branch (x / 2) → passes c X x ≡ false
+  pub stops-miss : (x : ℕ) → common X (c .entry (x / 2)) < c .branchLength (x / 2) → passes c X x ≡ false
   unfolding passes
-  stops-miss x l = rw (lt-leb (c .branch (x / 2)) (common X (c .entry (x / 2))) l) (no-test (one? (x % 2)))
+  stops-miss x l = rw (lt-leb (c .branchLength (x / 2)) (common X (c .entry (x / 2))) l) (no-test (one? (x % 2)))
     where
       no-test : (b : Bool) → (b && false) ≡ false
       no-test false = refl
@@ -85,24 +85,24 @@ module _ {n : ℕ} {c : Cache} (S : SoundCache n c) (X : Bits) where
   on-start h = on-cell rootCell (inl refl) (root-full S h) (rw cell-root tt)
 
   -- a branch, of slot i, that passes
-  passed : (x : ℕ) → passes c X x ≡ true → (i : ℕ) × (x ≡ branchNode i) × (c .branch i ≤ common X (c .entry i))
+  passed : (x : ℕ) → passes c X x ≡ true → (i : ℕ) × (x ≡ branchNode i) × (c .branchLength i ≤ common X (c .entry i))
   passed x e = go (node x)
     where
-      go : Node x → (i : ℕ) × (x ≡ branchNode i) × (c .branch i ≤ common X (c .entry i))
+      go : Node x → (i : ℕ) × (x ≡ branchNode i) × (c .branchLength i ≤ common X (c .entry i))
       go (is-entry i z) = absurd (clash e (stops-entry c X x (omega arith)))
-      go (is-branch i z) = sub (decLe (c .branch i) (common X (c .entry i)))
+      go (is-branch i z) = sub (decLe (c .branchLength i) (common X (c .entry i)))
         where
-          sub : Dec (c .branch i ≤ common X (c .entry i)) → (i : ℕ) × (x ≡ branchNode i) × (c .branch i ≤ common X (c .entry i))
+          sub : Dec (c .branchLength i ≤ common X (c .entry i)) → (i : ℕ) × (x ≡ branchNode i) × (c .branchLength i ≤ common X (c .entry i))
           sub (yes l) = (i, z, l)
           sub (no l) =
               let u : x / 2 ≡ i = omega arith in
               absurd (clash e (stops-miss c X x (rw u (omega arith))))
 
   -- it contains X
-  passed-⊑ : (i : ℕ) → 1 < i → i ≤ n → c .branch i ≤ common X (c .entry i) → prefixAt c (branchNode i) ⊑ X
+  passed-⊑ : (i : ℕ) → 1 < i → i ≤ n → c .branchLength i ≤ common X (c .entry i) → prefixAt c (branchNode i) ⊑ X
   passed-⊑ i h k l =
       rw (prefix-branch c i)
-      (common-⊑ {q = X} (take-⊑ (c .branch i) (c .entry i)) (omega (arith, common-sym X (c .entry i), branch-length S i h k, ap length (prefix-branch c i))))
+      (common-⊑ {q = X} (take-⊑ (c .branchLength i) (c .entry i)) (omega (arith, common-sym X (c .entry i), branch-length S i h k, ap length (prefix-branch c i))))
 
   module _ (short : Short n c X) where
     -- a step goes on to a longer prefix
@@ -111,8 +111,8 @@ module _ {n : ℕ} {c : Cache} (S : SoundCache n c) (X : Bits) where
     unfolding towards
     on-step x o e = go (passed x e)
       where
-        go : (i : ℕ) × (x ≡ branchNode i) × (c .branch i ≤ common X (c .entry i))
-            → On n c X (c .child (cellOf (x / 2) (getD X (c .branch (x / 2)) false))) × (length (prefixAt c x) < length (prefixAt c (c .child (cellOf (x / 2) (getD X (c .branch (x / 2)) false)))))
+        go : (i : ℕ) × (x ≡ branchNode i) × (c .branchLength i ≤ common X (c .entry i))
+            → On n c X (c .child (cellOf (x / 2) (getD X (c .branchLength (x / 2)) false))) × (length (prefixAt c x) < length (prefixAt c (c .child (cellOf (x / 2) (getD X (c .branchLength (x / 2)) false)))))
         go (i, z, l) = rw (u, z) (on-cell (cellOf i b) q (branch-full S i b lo hi) (rw cell f), below-< (rw cell at (pointed S (cellOf i b) q (branch-full S i b lo hi) .fits)))
           where
             u : x / 2 ≡ i
@@ -125,7 +125,7 @@ module _ {n : ℕ} {c : Cache} (S : SoundCache n c) (X : Bits) where
             hi = omega (arith, o .live)
 
             b : Bool
-            b = getD X (c .branch i) false
+            b = getD X (c .branchLength i) false
 
             cell : cellAt (cellOf i b) ≡ Kid (branchNode i) b
             cell = cell-branch i b (omega (arith, lo))
@@ -144,7 +144,7 @@ module _ {n : ℕ} {c : Cache} (S : SoundCache n c) (X : Bits) where
     unfolding walk
     walk-ends zero x o h = (o, is-false (λ e. late (passed x e)))
       where
-        late : (i : ℕ) × (x ≡ branchNode i) × (c .branch i ≤ common X (c .entry i)) → ⊥
+        late : (i : ℕ) × (x ≡ branchNode i) × (c .branchLength i ≤ common X (c .entry i)) → ⊥
         late (i, z, l) =
             let v = o .live in
             omega (arith, ⊑-length (passed-⊑ i (omega arith) (omega arith) l), ap (λ (y : ℕ). length (prefixAt c y)) z)
@@ -172,7 +172,7 @@ module _ {n : ℕ} {c : Cache} (S : SoundCache n c) (X : Bits) where
             u : x / 2 ≡ i
             u = omega arith
 
-            fits : prefixAt c x ⊑ X → c .branch i ≤ common X (c .entry i)
+            fits : prefixAt c x ⊑ X → c .branchLength i ≤ common X (c .entry i)
             fits p =
                 let v = o .live in
                 omega (arith, le-common p (subst (λ (k : ℕ). prefixAt c x ⊑ c .entry k) u (prefix-slot c x)), ap (λ (y : ℕ). length (prefixAt c y)) z, branch-length S i (omega arith) (omega arith))

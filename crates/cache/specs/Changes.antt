@@ -5,17 +5,17 @@ use lib.ListN.{length, getD}
 use lib.Dec.{leb, eqb}
 use Rattle.prefix.specs.Bits.{Bits, one?}
 use Rattle.prefix.specs.Prefix.{common}
-use Rattle.cache.specs.Slots.{Cache, entryNode, branchNode, cellOf, rootCell, setEntry, setBranch, setChild, setUp, setPrev, setNext}
+use Rattle.cache.specs.Slots.{Cache, entryNode, branchNode, cellOf, rootCell, setEntry, setBranchLength, setChild, setUp, setPrev, setNext}
 
 -- ---- the walk by an address
 
 -- the node x is a branch whose prefix contains X
 unfoldable pub passes : Cache → Bits → ℕ → Bool
-passes c X x = one? (x % 2) && leb (c .branch (x / 2)) (common X (c .entry (x / 2)))
+passes c X x = one? (x % 2) && leb (c .branchLength (x / 2)) (common X (c .entry (x / 2)))
 
 -- the cell of such a branch on X's side
 unfoldable pub towards : Cache → Bits → ℕ → ℕ
-towards c X x = cellOf (x / 2) (getD X (c .branch (x / 2)) false)
+towards c X x = cellOf (x / 2) (getD X (c .branchLength (x / 2)) false)
 
 -- the node where the walk from x stops, after at most so many steps
 unfoldable pub walk : Cache → Bits → ℕ → ℕ → ℕ
@@ -53,7 +53,7 @@ insertFirst c p h = pushFront (setChild (setUp (setEntry c 1 p h) (entryNode 1) 
 unfoldable pub hang : Cache → ℕ → ℕ → Bool → ℕ → Bits → ℕ → Cache
 hang c s q d m p h =
     setChild (setChild (setChild
-    (setUp (setBranch (setUp (setUp (setEntry c s p h) (c .child q) (cellOf s d)) (entryNode s) (cellOf s (not d))) s m) (branchNode s) q)
+    (setUp (setBranchLength (setUp (setUp (setEntry c s p h) (c .child q) (cellOf s d)) (entryNode s) (cellOf s (not d))) s m) (branchNode s) q)
     (cellOf s d) (c .child q)) (cellOf s (not d)) (entryNode s)) q (branchNode s)
 
 unfoldable pub insertAt : Cache → ℕ → ℕ → Bool → ℕ → Bits → ℕ → Cache
@@ -77,9 +77,9 @@ moveEntry c s t =
 -- the branch of slot s goes to slot t
 unfoldable pub moveBranch : Cache → ℕ → ℕ → Cache
 moveBranch c s t =
-    setUp (setBranch (setUp (setUp
+    setUp (setBranchLength (setUp (setUp
     (setChild (setChild (setChild c (cellOf t false) (c .child (cellOf s false))) (cellOf t true) (c .child (cellOf s true))) (c .up (branchNode s)) (branchNode t))
-    (c .child (cellOf s false)) (cellOf t false)) (c .child (cellOf s true)) (cellOf t true)) t (c .branch s)) (branchNode t) (c .up (branchNode s))
+    (c .child (cellOf s false)) (cellOf t false)) (c .child (cellOf s true)) (cellOf t true)) t (c .branchLength s)) (branchNode t) (c .up (branchNode s))
 
 -- slot s, unless it is t
 unfoldable pub fillEntry : Cache → ℕ → ℕ → Cache

@@ -11,7 +11,7 @@ use Rattle.cache.specs.Sound.{Slot, Live, InUse, along, Ring}
 
 -- the length of a node's prefix
 unfoldable pub lengthAt : Cache → ℕ → ℕ
-lengthAt c x = cond (one? (x % 2)) (c .branch (x / 2)) (length (c .entry (x / 2)))
+lengthAt c x = cond (one? (x % 2)) (c .branchLength (x / 2)) (length (c .entry (x / 2)))
 
 -- the node x hangs in a cell in use, which points at it
 pub record Hangs (n : ℕ) (c : Cache) (x : ℕ) : Type 0 where
@@ -22,12 +22,12 @@ pub record Hangs (n : ℕ) (c : Cache) (x : ℕ) : Type 0 where
 pub record Leads (n : ℕ) (c : Cache) (i : ℕ) (b : Bool) (y : ℕ) : Type 0 where
   pub live : Live n y
   pub knows : c .up y ≡ cellOf i b
-  pub longer : c .branch i < lengthAt c y
-  pub agrees : c .branch i ≤ common (c .entry i) (c .entry (y / 2))
-  pub side : getD (c .entry (y / 2)) (c .branch i) false ≡ b
+  pub longer : c .branchLength i < lengthAt c y
+  pub agrees : c .branchLength i ≤ common (c .entry i) (c .entry (y / 2))
+  pub side : getD (c .entry (y / 2)) (c .branchLength i) false ≡ b
 
 pub record BranchOk (n : ℕ) (c : Cache) (i : ℕ) : Type 0 where
-  pub short : c .branch i < length (c .entry i)
+  pub short : c .branchLength i < length (c .entry i)
   pub hangs : Hangs n c (branchNode i)
   pub leads : (b : Bool) → Leads n c i b (c .child (cellOf i b))
 

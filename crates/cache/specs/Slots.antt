@@ -12,7 +12,7 @@ pub record Cache : Type 0 where
   -- of a slot: its entry's prefix and hop, and the length of its branch
   pub entry : ℕ → Bits
   pub hop : ℕ → ℕ
-  pub branch : ℕ → ℕ
+  pub branchLength : ℕ → ℕ
   -- the node that a cell points at, 0 for none, and the cell that points at a node
   pub child : ℕ → ℕ
   pub up : ℕ → ℕ
@@ -36,22 +36,22 @@ rootCell = 0
 -- ---- one value changed
 
 unfoldable pub setEntry : Cache → ℕ → Bits → ℕ → Cache
-setEntry c i p h = record { entry = upd ℕ-discrete (c .entry) i p; hop = upd ℕ-discrete (c .hop) i h; branch = c .branch; child = c .child; up = c .up; prev = c .prev; next = c .next }
+setEntry c i p h = record { entry = upd ℕ-discrete (c .entry) i p; hop = upd ℕ-discrete (c .hop) i h; branchLength = c .branchLength; child = c .child; up = c .up; prev = c .prev; next = c .next }
 
 unfoldable pub setHop : Cache → ℕ → ℕ → Cache
-setHop c i h = record { entry = c .entry; hop = upd ℕ-discrete (c .hop) i h; branch = c .branch; child = c .child; up = c .up; prev = c .prev; next = c .next }
+setHop c i h = record { entry = c .entry; hop = upd ℕ-discrete (c .hop) i h; branchLength = c .branchLength; child = c .child; up = c .up; prev = c .prev; next = c .next }
 
-unfoldable pub setBranch : Cache → ℕ → ℕ → Cache
-setBranch c i m = record { entry = c .entry; hop = c .hop; branch = upd ℕ-discrete (c .branch) i m; child = c .child; up = c .up; prev = c .prev; next = c .next }
+unfoldable pub setBranchLength : Cache → ℕ → ℕ → Cache
+setBranchLength c i m = record { entry = c .entry; hop = c .hop; branchLength = upd ℕ-discrete (c .branchLength) i m; child = c .child; up = c .up; prev = c .prev; next = c .next }
 
 unfoldable pub setChild : Cache → ℕ → ℕ → Cache
-setChild c cell x = record { entry = c .entry; hop = c .hop; branch = c .branch; child = upd ℕ-discrete (c .child) cell x; up = c .up; prev = c .prev; next = c .next }
+setChild c cell x = record { entry = c .entry; hop = c .hop; branchLength = c .branchLength; child = upd ℕ-discrete (c .child) cell x; up = c .up; prev = c .prev; next = c .next }
 
 unfoldable pub setUp : Cache → ℕ → ℕ → Cache
-setUp c x cell = record { entry = c .entry; hop = c .hop; branch = c .branch; child = c .child; up = upd ℕ-discrete (c .up) x cell; prev = c .prev; next = c .next }
+setUp c x cell = record { entry = c .entry; hop = c .hop; branchLength = c .branchLength; child = c .child; up = upd ℕ-discrete (c .up) x cell; prev = c .prev; next = c .next }
 
 unfoldable pub setPrev : Cache → ℕ → ℕ → Cache
-setPrev c i s = record { entry = c .entry; hop = c .hop; branch = c .branch; child = c .child; up = c .up; prev = upd ℕ-discrete (c .prev) i s; next = c .next }
+setPrev c i s = record { entry = c .entry; hop = c .hop; branchLength = c .branchLength; child = c .child; up = c .up; prev = upd ℕ-discrete (c .prev) i s; next = c .next }
 
 unfoldable pub setNext : Cache → ℕ → ℕ → Cache
-setNext c i s = record { entry = c .entry; hop = c .hop; branch = c .branch; child = c .child; up = c .up; prev = c .prev; next = upd ℕ-discrete (c .next) i s }
+setNext c i s = record { entry = c .entry; hop = c .hop; branchLength = c .branchLength; child = c .child; up = c .up; prev = c .prev; next = upd ℕ-discrete (c .next) i s }

@@ -16,7 +16,7 @@ use Rattle.cache.specs.Slots.{Cache, branchNode, cellOf, rootCell}
 
 -- an entry's node is even, a branch's is odd
 unfoldable pub prefixAt : Cache → ℕ → Bits
-prefixAt c x = cond (one? (x % 2)) (take (c .branch (x / 2)) (c .entry (x / 2))) (c .entry (x / 2))
+prefixAt c x = cond (one? (x % 2)) (take (c .branchLength (x / 2)) (c .entry (x / 2))) (c .entry (x / 2))
 
 unfoldable pub hopAt : Cache → ℕ → Option ℕ
 hopAt c x = cond (one? (x % 2)) none (some (c .hop (x / 2)))
