@@ -1,28 +1,20 @@
 -- Only the values in use count: a cache that agrees with a sound one on them is sound and holds the same entries. Assumes nothing.
 use mathlib.Core.Path.{_≡_, sym, ap, ap₂, _∙_}
-use mathlib.Core.List.{map, List·Memᴰ, List·Memᴰ·cases-cons}
+use mathlib.Core.List.{List·Memᴰ, List·Memᴰ·cases-cons}
 use mathlib.Core.Logic.{_⊎_, inl, inr}
-use Prim.Native.Nat.{ℕ, zero, suc, _/_, _≤_, _<_}
+use Prim.Native.Nat.{ℕ, _/_, _≤_}
 use native.Mathlib.Omega.{arith}
 use lib.ListN.{take}
 use Rattle.prefix.specs.Bits.{Bits}
 use Rattle.trie.specs.Trie.{Cell, Root, Kid, Inside, Fits}
-use Rattle.cache.specs.Slots.{Cache, entryNode, branchNode}
-use Rattle.cache.specs.Sound.{prefixAt, hopAt, childAt, cellAt, trie, Slot, Live, InUse, SoundCache, entryOf, order, entries}
+use Rattle.cache.specs.Slots.{Cache}
+use Rattle.cache.specs.Sound.{prefixAt, childAt, cellAt, trie, Live, SoundCache, entryOf, order, entries}
+use Rattle.cache.specs.Results.{Agree}
 use Rattle.cache.proofs.Nodes.{Node, is-entry, is-branch, node, prefix-entry, prefix-branch, hop-same, child-same}
 use Rattle.cache.proofs.Shape.{cell-inside}
 use Rattle.cache.proofs.Rings.{chain-ext}
 use Rattle.cache.proofs.Orders.{Order, ring-order, order-ring, in-slot}
 use Rattle.cache.proofs.Using.{entry-path, map-same, entries-of}
-
-pub record Agree (n : ℕ) (c w : Cache) : Type 0 where
-  pub entry : (i : ℕ) → Slot n i → w .entry i ≡ c .entry i
-  pub hop : (i : ℕ) → Slot n i → w .hop i ≡ c .hop i
-  pub branch : (i : ℕ) → 1 < i → i ≤ n → w .branchLength i ≡ c .branchLength i
-  pub child : (q : ℕ) → InUse n q → w .child q ≡ c .child q
-  pub up : (x : ℕ) → Live n x → w .up x ≡ c .up x
-  pub prev : (i : ℕ) → i ≤ n → w .prev i ≡ c .prev i
-  pub next : (i : ℕ) → i ≤ n → w .next i ≡ c .next i
 
 module _ {n : ℕ} {c w : Cache} (A : Agree n c w) (S : SoundCache n c) where
   prefix : (x : ℕ) → Live n x → prefixAt w x ≡ prefixAt c x
@@ -30,7 +22,7 @@ module _ {n : ℕ} {c w : Cache} (A : Agree n c w) (S : SoundCache n c) where
     where
       go : Node x → prefixAt w x ≡ prefixAt c x
       go (is-entry i e) = rw e (prefix-entry w i ∙ A .entry i (omega arith) ∙ sym (prefix-entry c i))
-      go (is-branch i e) = rw e (prefix-branch w i ∙ ap₂ take (A .branch i (omega arith) (omega arith)) (A .entry i (omega arith)) ∙ sym (prefix-branch c i))
+      go (is-branch i e) = rw e (prefix-branch w i ∙ ap₂ take (A .branchLength i (omega arith) (omega arith)) (A .entry i (omega arith)) ∙ sym (prefix-branch c i))
 
   child : (e : Cell) → Inside (Live n) e → childAt w e ≡ childAt c e
   child e i = child-same c w (Live n) (λ l. omega arith) e i (λ q z. A .child q (cell-inside n q (rw z at i)))

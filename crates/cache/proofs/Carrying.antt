@@ -17,15 +17,10 @@ use Rattle.model.proofs.ListLaws.{le-largest}
 use Rattle.cache.specs.Slots.{Cache}
 use Rattle.cache.specs.Sound.{Slot, SoundCache, entryOf, stretch, order, entries}
 use Rattle.cache.specs.Changes.{insertFirst}
-use Rattle.cache.proofs.Walking.{Short}
-use Rattle.cache.proofs.Inserting.{Inserted, Free, insert-found, insert-first}
+use Rattle.cache.specs.Results.{Short, Free, Inserted, Carried}
+use Rattle.cache.proofs.Inserting.{insert-found, insert-first}
 use Rattle.cache.proofs.Removing.{empty-sound}
 use Rattle.cache.proofs.Holding.{slot-entry}
-
-pub record Carried (es : List Entry) : Type 0 where
-  pub cache : Cache
-  pub sound : SoundCache (length es) cache
-  pub holds : entries (length es) cache ≡ es
 
 -- one more entry in front
 more : (E : Entry) (es : List Entry) → ((D : Entry) → D ∈ es → overlap (E .prefix) (D .prefix) ≡ false) → Carried es → Carried (E ∷ es)

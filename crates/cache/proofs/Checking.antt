@@ -17,10 +17,11 @@ use Rattle.trie.proofs.Pigeonhole.{Distinct, pigeonhole}
 use Rattle.cache.specs.Slots.{Cache, entryNode, branchNode, cellOf, rootCell}
 use Rattle.cache.specs.Sound.{prefixAt, hopAt, pointer, childAt, cellAt, trie, Slot, Live, along, Ring, SoundCache, order}
 use Rattle.cache.specs.Checks.{lengthAt, Hangs, Leads, BranchOk, RootOk, Checked, Walked}
+use Rattle.cache.specs.Results.{without}
 use Rattle.cache.proofs.Nodes.{Node, is-entry, is-branch, node, digit-small, prefix-entry, prefix-branch, hop-entry, child-entry, child-branch, pointer-some, some-pointer, cell-root, cell-branch, child-cell}
 use Rattle.cache.proofs.Shape.{inside-cell, Pointed, pointed, hangs, root-full, branch-full, branch-short, prefix-slot}
 use Rattle.cache.proofs.Walking.{goes-on}
-use Rattle.cache.proofs.Rings.{Chain, without, without-keep, without-length}
+use Rattle.cache.proofs.Rings.{Chain, without-keep, without-length}
 use Rattle.cache.proofs.Orders.{ring-order, order-ring, in-slot, order-all, order-distinct}
 
 -- ---- one side of a branch
@@ -63,11 +64,11 @@ length-at {n} c short x l = go (node x)
 -- ---- the slots
 
 module _ {n : ℕ} {c : Cache} (S : SoundCache n c) where
-  hang : (x : ℕ) → Live n x → Hangs n c x
-  hang x l = let h = hangs S x l in record { in-use = h .0; points = h .1 }
+  hangs-ok : (x : ℕ) → Live n x → Hangs n c x
+  hangs-ok x l = let h = hangs S x l in record { in-use = h .0; points = h .1 }
 
-  lead : (i : ℕ) (b : Bool) → 1 < i → i ≤ n → Leads n c i b (c .child (cellOf i b))
-  lead i b h k =
+  leads-ok : (i : ℕ) (b : Bool) → 1 < i → i ≤ n → Leads n c i b (c .child (cellOf i b))
+  leads-ok i b h k =
       let s = branch-short S i h k in
       let t = below-side c i (c .child (cellOf i b)) b s (rw (← prefix-branch c i) (subst (λ (e : Cell). Fits (trie c) e (prefixAt c (c .child (cellOf i b)))) (cell-branch i b (omega arith)) (P .fits))) in
       record { live = P .live; knows = P .knows; longer = rw (← length-at c (branch-short S) (c .child (cellOf i b)) (P .live)) (t .0); agrees = t .1; side = t .2 }
@@ -88,7 +89,7 @@ module _ {n : ℕ} {c : Cache} (S : SoundCache n c) where
   pub sound-checked : Checked n c
   sound-checked = record {
     root = root-ok;
-    slots = λ i l. record { entry = hang (entryNode i) (omega arith); branch = λ h. record { short = branch-short S i h (l .1); hangs = hang (branchNode i) (omega arith); leads = λ b. lead i b h (l .1) } };
+    slots = λ i l. record { entry = hangs-ok (entryNode i) (omega arith); branch = λ h. record { short = branch-short S i h (l .1); hangs = hangs-ok (branchNode i) (omega arith); leads = λ b. leads-ok i b h (l .1) } };
     ring = S .ring;
   }
 

@@ -20,13 +20,11 @@ use Rattle.model.proofs.ListLaws.{le-largest, largest-in, Pairwise-map}
 use Rattle.trie.proofs.Pigeonhole.{Distinct}
 use Rattle.cache.specs.Slots.{Cache}
 use Rattle.cache.specs.Sound.{Slot, SoundCache, entryOf, order, entries}
+use Rattle.cache.specs.Results.{Short, Nearest, Free, without, others, Removed}
 use Rattle.cache.proofs.Shape.{no-overlap}
-use Rattle.cache.proofs.Walking.{Short, Nearest}
-use Rattle.cache.proofs.Rings.{without, without-length}
+use Rattle.cache.proofs.Rings.{without-length}
 use Rattle.cache.proofs.Orders.{ring-order, in-slot, order-all, order-distinct}
-use Rattle.cache.proofs.Using.{others, oldest-slot, oldest-last}
-use Rattle.cache.proofs.Inserting.{Free}
-use Rattle.cache.proofs.Removing.{Removed}
+use Rattle.cache.proofs.Using.{oldest-slot, oldest-last}
 
 -- ---- lists of slots
 

@@ -9,7 +9,7 @@ use native.Mathlib.Decide.{ℕ-discrete, decLt}
 use native.Mathlib.Omega.{arith}
 use lib.ListN.{length, take, getD}
 use Rattle.prefix.specs.Bits.{Bits, digit}
-use Rattle.prefix.specs.Prefix.{overlap, common, shared, _⊑_, Below}
+use Rattle.prefix.specs.Prefix.{common, shared, _⊑_, Below}
 use Rattle.prefix.proofs.Booleans.{bool-other}
 use Rattle.prefix.proofs.Order.{⊑-trans, ⊑-by-length, ⊑-eq, ⊑-take, below-⊑, below-<, below-bit, below-trans, below-by-length}
 use Rattle.prefix.proofs.Common.{common-take, shared-length, shared-left, shared-right, shared-great, shared-fork, below-shared}
@@ -19,18 +19,14 @@ use Rattle.trie.proofs.Cutting.{fits-trans}
 use Rattle.trie.proofs.Growing.{Grown, grown-sound, grown-branchy, branchy-old, full-old}
 use Rattle.trie.proofs.Insertions.{upd, upd-same, upd-other}
 use Rattle.cache.specs.Slots.{Cache, entryNode, branchNode, cellOf, rootCell, setEntry, setBranchLength, setChild, setUp, setPrev, setNext}
-use Rattle.cache.specs.Sound.{prefixAt, hopAt, pointer, childAt, cellAt, trie, Slot, Live, InUse, SoundCache, entryOf, order, entries}
+use Rattle.cache.specs.Sound.{prefixAt, hopAt, pointer, childAt, cellAt, trie, Live, InUse, SoundCache, entryOf, order}
 use Rattle.cache.specs.Changes.{passes, find, pushFront, insertFirst, hang, insertAt}
+use Rattle.cache.specs.Results.{Short, Free, Inserted}
 use Rattle.cache.proofs.Nodes.{prefix-entry, prefix-branch, hop-entry, hop-branch, child-entry, child-branch, pointer-some, pointer-none, cell-root, cell-branch, child-cell, prefix-same, hop-same, child-same}
 use Rattle.cache.proofs.Shape.{inside-cell, cell-inside, cell-low, Pointed, pointed, hangs, prefix-slot}
-use Rattle.cache.proofs.Walking.{On, Short, goes-on, miss-or-entry, find-ends}
+use Rattle.cache.proofs.Walking.{On, goes-on, miss-or-entry, find-ends}
 use Rattle.cache.proofs.Orders.{Order, ring-order, order-ring, order-same, in-slot, order-insert}
 use Rattle.cache.proofs.Using.{push-trie, same-trie, entry-path, map-same, entries-of}
-
--- w holds P → H in front of what c holds
-pub record Inserted (n : ℕ) (c w : Cache) (P : Bits) (H : ℕ) : Type 0 where
-  pub sound : SoundCache (suc n) w
-  pub holds : entries (suc n) w ≡ record { prefix = P; hop = H } ∷ entries n c
 
 -- from the nodes of w, and the links and entries of c
 inserted : {n : ℕ} {c : Cache} (w : Cache) {P : Bits} {H : ℕ} → SoundCache n c → Sound (Live (suc n)) (trie w) → Branchy (Live (suc n)) (trie w) → w .next ≡ c .next → w .prev ≡ c .prev
@@ -186,10 +182,6 @@ module _ {n : ℕ} {c : Cache} (S : SoundCache n c) (q : ℕ) (qi : InUse n q) (
   insert-split = inserted w S (grown-sound S₁ (inr refl) f₂ g₂) hang-branchy refl refl refl refl
 
 -- ---- where the walk by its address stops is where the entry goes
-
--- P overlaps no entry
-abbrev pub Free : ℕ → Cache → Bits → Type 0
-Free n c P = (k : ℕ) → Slot n k → overlap P (c .entry k) ≡ false
 
 fits-shared : (v : Trie) (e : Cell) (x y : Bits) → Fits v e x → Fits v e y → Fits v e (shared x y)
 fits-shared v Root x y f g = tt

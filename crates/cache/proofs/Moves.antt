@@ -20,14 +20,8 @@ use Rattle.trie.proofs.Removing.{cutAt, cut-at, Without}
 use Rattle.cache.specs.Slots.{Cache, entryNode, branchNode, cellOf, setEntry, setBranchLength, setChild, setUp, setPrev, setNext}
 use Rattle.cache.specs.Sound.{prefixAt, hopAt, pointer, childAt, cellAt, trie, Slot, Live, InUse, SoundCache}
 use Rattle.cache.specs.Changes.{moveLinks, prune, moveEntry, moveBranch}
-use Rattle.cache.proofs.Nodes.{Node, is-entry, is-branch, node, digit-small, prefix-entry, prefix-branch, hop-entry, hop-branch, child-entry, child-branch, pointer-some, some-pointer, cell-branch, child-cell, prefix-same, hop-same, child-same, root-kid}
+use Rattle.cache.proofs.Nodes.{Node, is-entry, is-branch, node, digit-small, prefix-entry, prefix-branch, hop-entry, hop-branch, child-entry, child-branch, pointer-some, some-pointer, cell-branch, child-cell, prefix-same, hop-same, child-same, root-kid, kid-node, kid-side}
 use Rattle.cache.proofs.Shape.{hangs, branch-full, branch-short, branch-length}
-
-kid-node : {x y : ℕ} {b d : Bool} → Kid x b ≡ Kid y d → x ≡ y
-kid-node e = cc
-
-kid-side : {x y : ℕ} {b d : Bool} → Kid x b ≡ Kid y d → b ≡ d
-kid-side e = cc
 
 -- ---- the entry of slot k, which hangs on the side b of the branch in slot j, is cut out with that branch
 

@@ -107,10 +107,10 @@ child-cell c zero = rw cell-root
 child-cell c (suc q) =
     ap (childAt c) (cell-suc (suc q) (omega arith)) ∙ child-branch c (suc q / 2) (one? (suc q % 2)) ∙ ap (λ (k : ℕ). pointer (c .child k)) (sym (cell-split (suc q)))
 
-kid-slot : {x y : ℕ} {b d : Bool} → Kid x b ≡ Kid y d → x ≡ y
-kid-slot e = cc
+pub kid-node : {x y : ℕ} {b d : Bool} → Kid x b ≡ Kid y d → x ≡ y
+kid-node e = cc
 
-kid-side : {x y : ℕ} {b d : Bool} → Kid x b ≡ Kid y d → b ≡ d
+pub kid-side : {x y : ℕ} {b d : Bool} → Kid x b ≡ Kid y d → b ≡ d
 kid-side e = cc
 
 pub root-kid : {x : ℕ} {b : Bool} → ¬ (Root ≡ Kid x b)
@@ -122,7 +122,7 @@ cell-inj zero zero e = refl
 cell-inj zero (suc r) e = absurd (root-kid e)
 cell-inj (suc q) zero e = absurd (root-kid (sym e))
 cell-inj (suc q) (suc r) e =
-    let s : 2 * (suc q / 2) + 1 ≡ 2 * (suc r / 2) + 1 = kid-slot e in
+    let s : 2 * (suc q / 2) + 1 ≡ 2 * (suc r / 2) + 1 = kid-node e in
     let t : digit (one? (suc q % 2)) ≡ digit (one? (suc r % 2)) = ap digit (kid-side e) in
     omega (arith, cell-split (suc q), cell-split (suc r))
 

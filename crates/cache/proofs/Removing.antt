@@ -19,13 +19,14 @@ use Rattle.trie.proofs.Insertions.{upd-same, upd-other}
 use Rattle.trie.proofs.Cutting.{Renamed, renamed-sound, renamed-branchy}
 use Rattle.trie.proofs.Moving.{ren, ren-s, ren-other, moved-renamed}
 use Rattle.cache.specs.Slots.{Cache, entryNode, branchNode, cellOf, rootCell, setEntry, setBranchLength, setChild, setUp, setPrev, setNext}
-use Rattle.cache.specs.Sound.{prefixAt, pointer, childAt, cellAt, trie, Slot, Live, InUse, SoundCache, entryOf, order, entries}
+use Rattle.cache.specs.Sound.{prefixAt, pointer, childAt, cellAt, trie, Slot, Live, InUse, SoundCache, entryOf, order}
 use Rattle.cache.specs.Changes.{unlink, moveLinks, removeOnly, prune, moveEntry, moveBranch, fillEntry, fillSlot, removeAt}
+use Rattle.cache.specs.Results.{without, Removed, placeAfter}
 use Rattle.cache.proofs.Nodes.{prefix-entry, pointer-none, child-cell, cell-root, cell-split}
 use Rattle.cache.proofs.Shape.{hangs, apart}
-use Rattle.cache.proofs.Rings.{without, without-keep, mem-ne}
+use Rattle.cache.proofs.Rings.{without-keep, mem-ne}
 use Rattle.cache.proofs.Orders.{Order, ring-order, order-ring, order-is, order-all, order-same, Hole, hole-make, hole-same, hole-move, hole-end}
-use Rattle.cache.proofs.Using.{unlink-trie, entry-path, map-same, entries-of, others}
+use Rattle.cache.proofs.Using.{unlink-trie, entry-path, map-same, entries-of}
 use Rattle.cache.proofs.Moves.{Left, parent-slot, prune-sound, prune-branchy, relocated, entry-moved, branch-moved}
 
 -- on the way, c has n entries in slots of 1 to n + 1: its nodes are those of live, slot h is free, and what the cache b has in the slots
@@ -100,13 +101,6 @@ sound-iff {live} {live′} {v} f g S = record {
 shrink : (n a : ℕ) → Live (suc n) a → ¬ (a ≡ entryNode (suc n)) → ¬ (a ≡ branchNode (suc n)) → Live n a
 shrink n a l p q = omega arith
 
--- w holds what c holds but for the entry of slot k, and has the entry of each other slot i in the slot place i
-pub record Removed (n : ℕ) (c w : Cache) (k : ℕ) (place : ℕ → ℕ) : Type 0 where
-  pub sound : SoundCache n w
-  pub holds : entries n w ≡ others (suc n) c k
-  pub slots : order n w ≡ map place (without k (order (suc n) c))
-  pub moved : (i : ℕ) → Slot (suc n) i → ¬ (i ≡ k) → entryOf w (place i) ≡ entryOf c i
-
 removed : {n : ℕ} {c w : Cache} {k : ℕ} {place : ℕ → ℕ} {live : ℕ → Type 0} → ((a : ℕ) → live a → Live n a) → ((a : ℕ) → Live n a → live a) → SoundCache (suc n) c → Open c (without k (order (suc n) c)) live n (suc n) place w → Removed n c w k place
 removed {n} {c} {w} {k} {place} f g S O = record {
   sound = record { pointers = sound-iff f g (O .pointers); branchy = λ a l. O .branchy a (g a l); ring = order-ring (hole-end (O .hole)) };
@@ -114,10 +108,6 @@ removed {n} {c} {w} {k} {place} f g S O = record {
   slots = order-is (hole-end (O .hole));
   moved = λ i h ne. O .moved i (without-keep k (order (suc n) c) i ne (order-all (ring-order (S .ring)) i h));
 }
-
--- where a slot's entry is after the removal of slot k, whose branch is in slot j: j's in slot k, and that of the last slot, m, in slot j
-abbrev pub placeAfter : ℕ → ℕ → ℕ → ℕ → ℕ
-placeAfter m k j i = ren m j (ren j k i)
 
 module _ {n : ℕ} {c : Cache} (S : SoundCache (suc n) c) (k j : ℕ) (b : Bool) (lk : Slot (suc n) k) (is-up : c .up (entryNode k) ≡ cellOf j b) (pos : 0 < j) where
   abbrev l : List ℕ

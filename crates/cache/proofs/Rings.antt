@@ -10,6 +10,7 @@ use Rattle.trie.proofs.Moving.{ren, ren-s, ren-other}
 use Rattle.trie.proofs.Pigeonhole.{Distinct}
 use Rattle.cache.specs.Slots.{Cache, setPrev, setNext}
 use Rattle.cache.specs.Changes.{unlink, pushFront, moveLinks}
+use Rattle.cache.specs.Results.{without}
 
 -- from slot a `next` leads through l to z, and `prev` back
 abbrev pub Chain : Cache → ℕ → List ℕ → ℕ → Type 0
@@ -111,10 +112,6 @@ pub loop-same : (c w : Cache) (l : List ℕ) → w .next ≡ c .next → w .prev
 loop-same c w l n p L = record { chain = chain-ext c w 0 l 0 (L .chain) (λ x m. ap (λ (f : ℕ → ℕ). f x) n) (λ x m. ap (λ (f : ℕ → ℕ). f x) p); outside = L .outside }
 
 -- ---- a list less one of its slots
-
-unfoldable pub without : ℕ → List ℕ → List ℕ
-without k [] = []
-without k (x ∷ l) = elim (ℕ-discrete x k) [ yes e ↦ l | no n ↦ x ∷ without k l ]
 
 pub without-sub : (k : ℕ) (l : List ℕ) (a : ℕ) → List·Memᴰ a (without k l) → List·Memᴰ a l
 unfolding without

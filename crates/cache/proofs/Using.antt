@@ -12,9 +12,10 @@ use Rattle.trie.proofs.Insertions.{upd-same, upd-other}
 use Rattle.trie.proofs.Pigeonhole.{Distinct}
 use Rattle.cache.specs.Slots.{Cache, setHop, setPrev, setNext}
 use Rattle.cache.specs.Sound.{prefixAt, hopAt, childAt, cellAt, trie, Slot, Live, Ring, SoundCache, entryOf, order, entries}
-use Rattle.cache.specs.Changes.{unlink, pushFront, toFront, moveLinks}
+use Rattle.cache.specs.Changes.{unlink, pushFront, toFront}
+use Rattle.cache.specs.Results.{without, others}
 use Rattle.cache.proofs.Nodes.{Node, is-entry, is-branch, node, hop-entry, hop-branch}
-use Rattle.cache.proofs.Rings.{without, mem-last, without-last}
+use Rattle.cache.proofs.Rings.{mem-last, without-last}
 use Rattle.cache.proofs.Orders.{Order, ring-order, order-ring, order-is, order-same, order-distinct, in-slot, order-front, order-last}
 
 -- ---- the trie does not depend on the order of use
@@ -35,10 +36,7 @@ pub push-trie : (c : Cache) (k : ℕ) → trie (pushFront c k) ≡ trie c
 unfolding pushFront setPrev setNext prefixAt hopAt
 push-trie c k = trie-path refl refl (fun-ext (child-path c (pushFront c k) refl)) refl
 
-pub links-trie : (c : Cache) (s t : ℕ) → trie (moveLinks c s t) ≡ trie c
-unfolding moveLinks setPrev setNext prefixAt hopAt
-links-trie c s t = trie-path refl refl (fun-ext (child-path c (moveLinks c s t) refl)) refl
-
+-- so soundness needs the nodes of one cache and the ring of the other
 pub same-trie : {n : ℕ} (c w : Cache) → trie w ≡ trie c → Sound (Live n) (trie c) → Branchy (Live n) (trie c) → Ring n w → SoundCache n w
 same-trie {n} c w e S B R = record { pointers = subst (λ (v : Trie). Sound (Live n) v) (sym e) S; branchy = subst (λ (v : Trie). Branchy (Live n) v) (sym e) B; ring = R }
 
@@ -54,10 +52,6 @@ map-same f g (x ∷ l) h = let a = h x (List·Memᴰ·head refl) in let b = map-
 pub entries-of : {n : ℕ} {c : Cache} {l : List ℕ} → Order n c l → entries n c ≡ map (entryOf c) l
 unfolding entries
 entries-of {n} {c} o = ap (map (entryOf c)) (order-is o)
-
--- the entries but that of slot k, in their order
-abbrev pub others : ℕ → Cache → ℕ → List Entry
-others n c k = map (entryOf c) (without k (order n c))
 
 -- ---- an entry is used
 

@@ -19,6 +19,7 @@ use Rattle.trie.proofs.Placing.{through}
 use Rattle.cache.specs.Slots.{Cache, entryNode, branchNode, cellOf, rootCell}
 use Rattle.cache.specs.Sound.{prefixAt, pointer, cellAt, trie, Slot, Live, InUse, SoundCache}
 use Rattle.cache.specs.Changes.{passes, towards, walk, find}
+use Rattle.cache.specs.Results.{Short, Nearest}
 use Rattle.cache.proofs.Nodes.{Node, is-entry, is-branch, node, digit-small, prefix-entry, prefix-branch, pointer-some, child-cell, cell-root, cell-branch}
 use Rattle.cache.proofs.Shape.{pointed, hangs, root-full, branch-full, inside-cell, apart, branch-short, branch-length, prefix-slot}
 
@@ -60,16 +61,6 @@ module _ (c : Cache) (X : Bits) where
 pub record On (n : ℕ) (c : Cache) (X : Bits) (x : ℕ) : Type 0 where
   pub live : Live n x
   pub fits : Fits (trie c) (cellAt (c .up x)) X
-
--- the entry of slot i has the most in common with X, and no other contains X
-pub record Nearest (n : ℕ) (c : Cache) (X : Bits) (i : ℕ) : Type 0 where
-  pub slot : Slot n i
-  pub most : (k : ℕ) → Slot n k → common X (c .entry k) ≤ common X (c .entry i)
-  pub only : (k : ℕ) → Slot n k → c .entry k ⊑ X → k ≡ i
-
--- no entry is longer than X
-abbrev pub Short : ℕ → Cache → Bits → Type 0
-Short n c X = (i : ℕ) → Slot n i → length (c .entry i) ≤ length X
 
 -- the bit by which X goes on from p
 pub goes-on : {p X : Bits} → p ⊑ X → length p < length X → Below p (getD X (length p) false) X

@@ -28,6 +28,7 @@ find c X = walk c X (suc (length X)) (c .child rootCell)
 
 -- ---- the order of use
 
+-- slot k is taken out of the ring, and put in after slot 0
 unfoldable pub unlink : Cache → ℕ → Cache
 unlink c k = setPrev (setNext c (c .prev k) (c .next k)) (c .next k) (c .prev k)
 
@@ -38,7 +39,7 @@ pushFront c k = setPrev (setPrev (setNext (setNext c k (c .next 0)) 0 k) k 0) (c
 unfoldable pub toFront : Cache → ℕ → Cache
 toFront c k = pushFront (unlink c k) k
 
--- slot t takes the place of slot s
+-- slot t takes the place of slot s in the ring
 unfoldable pub moveLinks : Cache → ℕ → ℕ → Cache
 moveLinks c s t = setPrev (setPrev (setNext (setNext c t (c .next s)) (c .prev s) t) t (c .prev s)) (c .next s) t
 
@@ -56,6 +57,7 @@ hang c s q d m p h =
     (setUp (setBranchLength (setUp (setUp (setEntry c s p h) (c .child q) (cellOf s d)) (entryNode s) (cellOf s (not d))) s m) (branchNode s) q)
     (cellOf s d) (c .child q)) (cellOf s (not d)) (entryNode s)) q (branchNode s)
 
+-- the same with its place in the order of use
 unfoldable pub insertAt : Cache → ℕ → ℕ → Bool → ℕ → Bits → ℕ → Cache
 insertAt c s q d m p h = pushFront (hang c s q d m p h) s
 
@@ -81,7 +83,7 @@ moveBranch c s t =
     (setChild (setChild (setChild c (cellOf t false) (c .child (cellOf s false))) (cellOf t true) (c .child (cellOf s true))) (c .up (branchNode s)) (branchNode t))
     (c .child (cellOf s false)) (cellOf t false)) (c .child (cellOf s true)) (cellOf t true)) t (c .branchLength s)) (branchNode t) (c .up (branchNode s))
 
--- slot s, unless it is t
+-- the free slot t gets the entry of slot s, or all of slot s, unless s is the free slot itself
 unfoldable pub fillEntry : Cache → ℕ → ℕ → Cache
 fillEntry c s t = cond (eqb s t) c (moveEntry c s t)
 

@@ -26,12 +26,12 @@ pub record Leads (n : ℕ) (c : Cache) (i : ℕ) (b : Bool) (y : ℕ) : Type 0 w
   pub agrees : c .branchLength i ≤ common (c .entry i) (c .entry (y / 2))
   pub side : getD (c .entry (y / 2)) (c .branchLength i) false ≡ b
 
+-- what is checked of a branch, of a slot, of the root cell, and of all
 pub record BranchOk (n : ℕ) (c : Cache) (i : ℕ) : Type 0 where
   pub short : c .branchLength i < length (c .entry i)
   pub hangs : Hangs n c (branchNode i)
   pub leads : (b : Bool) → Leads n c i b (c .child (cellOf i b))
 
--- slot 1 has no branch
 pub record SlotOk (n : ℕ) (c : Cache) (i : ℕ) : Type 0 where
   pub entry : Hangs n c (entryNode i)
   pub branch : 1 < i → BranchOk n c i

@@ -33,7 +33,7 @@ cellOf i side = 2 * i + digit side
 abbrev pub rootCell : ℕ
 rootCell = 0
 
--- ---- one value changed
+-- ---- one value changed (an entry's prefix and hop at once)
 
 unfoldable pub setEntry : Cache → ℕ → Bits → ℕ → Cache
 setEntry c i p h = record { entry = upd ℕ-discrete (c .entry) i p; hop = upd ℕ-discrete (c .hop) i h; branchLength = c .branchLength; child = c .child; up = c .up; prev = c .prev; next = c .next }

@@ -14,13 +14,15 @@ use Rattle.cache.specs.Slots.{Cache, branchNode, cellOf, rootCell}
 
 -- ---- the trie of the slots
 
--- an entry's node is even, a branch's is odd
+-- the prefix of a node: entries are even, branches odd
 unfoldable pub prefixAt : Cache → ℕ → Bits
 prefixAt c x = cond (one? (x % 2)) (take (c .branchLength (x / 2)) (c .entry (x / 2))) (c .entry (x / 2))
 
+-- a branch has no hop
 unfoldable pub hopAt : Cache → ℕ → Option ℕ
 hopAt c x = cond (one? (x % 2)) none (some (c .hop (x / 2)))
 
+-- 0 points at nothing
 unfoldable pub pointer : ℕ → Option ℕ
 pointer zero = none
 pointer (suc x) = some (suc x)
@@ -30,10 +32,12 @@ unfoldable pub childAt : Cache → Cell → Option ℕ
 childAt c Root = pointer (c .child rootCell)
 childAt c (Kid x side) = cond (one? (x % 2)) (pointer (c .child (cellOf (x / 2) side))) none
 
+-- the cell of a number
 unfoldable pub cellAt : ℕ → Cell
 cellAt zero = Root
 cellAt (suc q) = Kid (branchNode (suc q / 2)) (one? (suc q % 2))
 
+-- the entries are its routes
 abbrev pub trie : Cache → Trie
 trie c = record { prefix = prefixAt c; hop = hopAt c; child = childAt c; up = λ x. cellAt (c .up x) }
 
@@ -63,13 +67,17 @@ pub record Ring (n : ℕ) (c : Cache) : Type 0 where
   pub others : (k : ℕ) → Slot n k → ¬ (along c 0 k ≡ 0)
   pub back : along c 0 (suc n) ≡ 0
 
+-- a sound cache of n entries
 pub record SoundCache (n : ℕ) (c : Cache) : Type 0 where
+  -- what a cell in use points at is live, knows the cell and goes on from it; and each live node hangs in such a cell
   pub pointers : Sound (Live n) (trie c)
+  -- a branch has two children
   pub branchy : Branchy (Live n) (trie c)
   pub ring : Ring n c
 
 -- ---- the entries
 
+-- the entry in a slot
 abbrev pub entryOf : Cache → ℕ → Entry
 entryOf c i = record { prefix = c .entry i; hop = c .hop i }
 
@@ -82,5 +90,6 @@ stretch c a (suc n) = c .next a ∷ stretch c (c .next a) n
 unfoldable pub order : ℕ → Cache → List ℕ
 order n c = stretch c 0 n
 
+-- the entries in that order
 unfoldable pub entries : ℕ → Cache → List Entry
 entries n c = map (entryOf c) (order n c)
