@@ -5,10 +5,9 @@ use mathlib.Core.Logic.{_⊎_, inl, inr}
 use Prim.Native.Nat.{ℕ, _/_, _≤_}
 use native.Mathlib.Omega.{arith}
 use lib.ListN.{take}
-use Rattle.prefix.specs.Bits.{Bits}
-use Rattle.trie.specs.Trie.{Cell, Root, Kid, Inside, Fits}
+use Rattle.trie.proofs.Moving.{Agrees, agrees-sound, agrees-branchy}
 use Rattle.cache.specs.Slots.{Cache}
-use Rattle.cache.specs.Sound.{prefixAt, childAt, cellAt, trie, Live, SoundCache, entryOf, order, entries}
+use Rattle.cache.specs.Sound.{prefixAt, cellAt, trie, Live, SoundCache, entryOf, order, entries}
 use Rattle.cache.specs.Results.{Agree}
 use Rattle.cache.proofs.Nodes.{Node, is-entry, is-branch, node, prefix-entry, prefix-branch, hop-same, child-same}
 use Rattle.cache.proofs.Shape.{cell-inside}
@@ -24,15 +23,13 @@ module _ {n : ℕ} {c w : Cache} (A : Agree n c w) (S : SoundCache n c) where
       go (is-entry i e) = rw e (prefix-entry w i ∙ A .entry i (omega arith) ∙ sym (prefix-entry c i))
       go (is-branch i e) = rw e (prefix-branch w i ∙ ap₂ take (A .branchLength i (omega arith) (omega arith)) (A .entry i (omega arith)) ∙ sym (prefix-branch c i))
 
-  child : (e : Cell) → Inside (Live n) e → childAt w e ≡ childAt c e
-  child e i = child-same c w (Live n) (λ l. omega arith) e i (λ q z. A .child q (cell-inside n q (rw z at i)))
-
-  fits : (e : Cell) (p : Bits) → Inside (Live n) e → Fits (trie c) e p → Fits (trie w) e p
-  fits Root p i f = tt
-  fits (Kid a b) p l f = rw (prefix a l) f
-
-  inside : (x : ℕ) → Live n x → Inside (Live n) (cellAt (c .up x)) → Inside (Live n) (cellAt (w .up x))
-  inside x l i = rw (A .up x l) i
+  nodes : Agrees (Live n) (trie c) (trie w)
+  nodes = record {
+    prefix = prefix;
+    hop = λ x l. hop-same c w x (A .hop (x / 2) (omega arith));
+    up = λ x l. ap cellAt (A .up x l);
+    child = λ e i. child-same c w (Live n) (λ l. omega arith) e i (λ q z. A .child q (cell-inside n q (rw z at i)));
+  }
 
   used : Order n w (order n c)
   used = record {
@@ -53,14 +50,7 @@ module _ {n : ℕ} {c w : Cache} (A : Agree n c w) (S : SoundCache n c) where
       to (inr e) = omega arith
 
   pub agree-sound : SoundCache n w
-  agree-sound = record {
-    pointers = record {
-      points = λ e j i h. let p = S .pointers .points e j i (sym (child e i) ∙ h) in record { is-live = p .is-live; back = ap cellAt (A .up j (p .is-live)) ∙ p .back; fits = rw (prefix j (p .is-live)) (fits e (prefixAt c j) i (p .fits)) };
-      owned = λ x l. let o = S .pointers .owned x l in record { inside = inside x l (o .inside); child = ap (childAt w) (ap cellAt (A .up x l)) ∙ child (cellAt (c .up x)) (o .inside) ∙ o .child };
-    };
-    branchy = λ a l h b. let t = S .branchy a l (sym (hop-same c w a (A .hop (a / 2) (omega arith))) ∙ h) b in (t .0, child (Kid a b) l ∙ t .1);
-    ring = order-ring used;
-  }
+  agree-sound = record { pointers = agrees-sound nodes (S .pointers); branchy = agrees-branchy nodes (S .pointers) (S .branchy); ring = order-ring used }
 
   pub agree-entries : entries n w ≡ entries n c
   agree-entries = entries-of used ∙ map-same (entryOf w) (entryOf c) (order n c) (λ i m. let s = in-slot (ring-order (S .ring)) i m in entry-path (A .entry i s) (A .hop i s)) ∙ sym (entries-of (ring-order (S .ring)))

@@ -14,13 +14,13 @@ use Rattle.prefix.proofs.Order.{⊑-length, take-⊑, take-len, below-⊑, belo
 use Rattle.prefix.proofs.Common.{le-common, common-⊑}
 use Rattle.trie.specs.Trie.{Cell, Root, Kid, Inside, Fits, Points, Owned}
 use Rattle.trie.proofs.Pigeonhole.{Distinct, pigeonhole}
+use Rattle.trie.proofs.Next.{next-below}
 use Rattle.cache.specs.Slots.{Cache, entryNode, branchNode, cellOf, rootCell}
 use Rattle.cache.specs.Sound.{prefixAt, hopAt, pointer, childAt, cellAt, trie, Slot, Live, along, Ring, SoundCache, order}
 use Rattle.cache.specs.Checks.{lengthAt, Hangs, Leads, BranchOk, RootOk, Checked, Walked}
 use Rattle.cache.specs.Results.{without}
 use Rattle.cache.proofs.Nodes.{Node, is-entry, is-branch, node, digit-small, prefix-entry, prefix-branch, hop-entry, child-entry, child-branch, pointer-some, some-pointer, cell-root, cell-branch, child-cell}
 use Rattle.cache.proofs.Shape.{inside-cell, Pointed, pointed, hangs, root-full, branch-full, branch-short, prefix-slot}
-use Rattle.cache.proofs.Walking.{goes-on}
 use Rattle.cache.proofs.Rings.{Chain, without-keep, without-length}
 use Rattle.cache.proofs.Orders.{ring-order, order-ring, in-slot, order-all, order-distinct}
 
@@ -34,7 +34,7 @@ module _ (c : Cache) (i y : ℕ) (b : Bool) (short : c .branchLength i < length 
   p-length = take-len (c .branchLength i) (c .entry i) (omega arith)
 
   goes : p ⊑ c .entry (y / 2) → c .branchLength i < length (c .entry (y / 2)) → Below p (getD (c .entry (y / 2)) (c .branchLength i) false) (c .entry (y / 2))
-  goes h l = subst (λ (m : ℕ). Below p (getD (c .entry (y / 2)) m false) (c .entry (y / 2))) p-length (goes-on h (omega (arith, p-length)))
+  goes h l = subst (λ (m : ℕ). Below p (getD (c .entry (y / 2)) m false) (c .entry (y / 2))) p-length (next-below h (omega (arith, p-length)))
 
   side-below : c .branchLength i < length (prefixAt c y) → c .branchLength i ≤ common (c .entry i) (c .entry (y / 2)) → getD (c .entry (y / 2)) (c .branchLength i) false ≡ b → Below p b (prefixAt c y)
   side-below l a s =

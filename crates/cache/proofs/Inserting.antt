@@ -17,14 +17,16 @@ use Rattle.prefix.proofs.Tests.{apart-⊑, apart-not}
 use Rattle.trie.specs.Trie.{Cell, Root, Kid, Trie, Inside, Fits, Sound, Branchy}
 use Rattle.trie.proofs.Cutting.{fits-trans}
 use Rattle.trie.proofs.Growing.{Grown, grown-sound, grown-branchy, branchy-old, full-old}
-use Rattle.trie.proofs.Insertions.{upd, upd-same, upd-other}
+use Rattle.trie.specs.Updates.{upd}
+use Rattle.trie.proofs.Stores.{upd-same, upd-other}
+use Rattle.trie.proofs.Next.{next-below}
 use Rattle.cache.specs.Slots.{Cache, entryNode, branchNode, cellOf, rootCell, setEntry, setBranchLength, setChild, setUp, setPrev, setNext}
 use Rattle.cache.specs.Sound.{prefixAt, hopAt, pointer, childAt, cellAt, trie, Live, InUse, SoundCache, entryOf, order}
 use Rattle.cache.specs.Changes.{passes, find, pushFront, insertFirst, hang, insertAt}
 use Rattle.cache.specs.Results.{Short, Free, Inserted}
 use Rattle.cache.proofs.Nodes.{prefix-entry, prefix-branch, hop-entry, hop-branch, child-entry, child-branch, pointer-some, pointer-none, cell-root, cell-branch, child-cell, prefix-same, hop-same, child-same}
 use Rattle.cache.proofs.Shape.{inside-cell, cell-inside, cell-low, Pointed, pointed, hangs, prefix-slot}
-use Rattle.cache.proofs.Walking.{On, goes-on, miss-or-entry, find-ends}
+use Rattle.cache.proofs.Walking.{On, miss-or-entry, find-ends}
 use Rattle.cache.proofs.Orders.{Order, ring-order, order-ring, order-same, in-slot, order-insert}
 use Rattle.cache.proofs.Using.{push-trie, same-trie, entry-path, map-same, entries-of}
 
@@ -89,10 +91,7 @@ module _ {n : ℕ} {c : Cache} (S : SoundCache n c) (q : ℕ) (qi : InUse n q) (
   g₁ : Grown (Live n) Mid (trie c) (trie u) (cellAt q) (branchNode (suc n)) L none
   unfolding hang setEntry setBranchLength setChild setUp
   g₁ = record {
-    fresh = λ l. omega arith;
-    live-old = λ a l. inl l;
-    live-new = inr refl;
-    live-inv = λ a l. l;
+    joined = record { fresh = λ l. omega arith; old = λ a l. inl l; new = inr refl; inv = λ a l. l };
     prefix-old = λ a l. prefix-same c u a (upd-other _ _ _ _ (a / 2) (λ z. omega arith)) (upd-other _ _ _ _ (a / 2) (λ z. omega arith));
     prefix-new =
         prefix-branch u (suc n)
@@ -132,10 +131,7 @@ module _ {n : ℕ} {c : Cache} (S : SoundCache n c) (q : ℕ) (qi : InUse n q) (
   g₂ : Grown Mid (Live (suc n)) (trie u) (trie w) (Kid (branchNode (suc n)) (not d)) (entryNode (suc n)) P (some H)
   unfolding hang setEntry setBranchLength setChild setUp
   g₂ = record {
-    fresh = λ l. fresh l;
-    live-old = λ a l. live-old a l;
-    live-new = omega arith;
-    live-inv = λ a l. live-inv a l (ℕ-discrete a (entryNode (suc n))) (ℕ-discrete a (branchNode (suc n)));
+    joined = record { fresh = fresh; old = old; new = omega arith; inv = λ a l. inv a l (ℕ-discrete a (entryNode (suc n))) (ℕ-discrete a (branchNode (suc n))) };
     prefix-old = λ a l. prefix-same u w a refl refl;
     prefix-new = prefix-entry w (suc n) ∙ upd-same _ _ _ _ (suc n) refl;
     hop-old = λ a l. hop-same u w a refl;
@@ -156,21 +152,21 @@ module _ {n : ℕ} {c : Cache} (S : SoundCache n c) (q : ℕ) (qi : InUse n q) (
       one (inl l) = omega arith
       one (inr z) = omega arith
 
-      live-old : (a : ℕ) → Mid a → Live (suc n) a
-      live-old a (inl l) = omega arith
-      live-old a (inr z) = let l = px .live in omega arith
+      old : (a : ℕ) → Mid a → Live (suc n) a
+      old a (inl l) = omega arith
+      old a (inr z) = let l = px .live in omega arith
 
-      live-inv : (a : ℕ) → Live (suc n) a → Dec (a ≡ entryNode (suc n)) → Dec (a ≡ branchNode (suc n)) → Mid a ⊎ (a ≡ entryNode (suc n))
-      live-inv a l (yes z) t = inr z
-      live-inv a l (no z) (yes y) = inl (inr y)
-      live-inv a l (no z) (no y) = inl (inl (omega arith))
+      inv : (a : ℕ) → Live (suc n) a → Dec (a ≡ entryNode (suc n)) → Dec (a ≡ branchNode (suc n)) → Mid a ⊎ (a ≡ entryNode (suc n))
+      inv a l (yes z) t = inr z
+      inv a l (no z) (yes y) = inl (inr y)
+      inv a l (no z) (no y) = inl (inl (omega arith))
 
   branch-full : (b : Bool) → Dec (b ≡ d) → (j : ℕ) × (childAt w (Kid (branchNode (suc n)) b) ≡ some j)
   branch-full b (yes z) = full-old S₁ (inr refl) f₂ g₂ (Kid (branchNode (suc n)) b) (c .child q) (inr refl) (rw z u-full)
   branch-full b (no ne) = (entryNode (suc n), rw (bool-other b d ne) (g₂ .child-cell))
 
   hang-branchy : Branchy (Live (suc n)) (trie w)
-  hang-branchy a l h b = go (g₂ .live-inv a l)
+  hang-branchy a l h b = go (g₂ .joined .inv a l)
     where
       go : Mid a ⊎ (a ≡ entryNode (suc n)) → (j : ℕ) × (childAt w (Kid a b) ≡ some j)
       go (inl (inl k)) = branchy-old S₁ (inr refl) f₂ g₂ a (inl k) (branchy-old (S .pointers) (inside-cell n q qi) lf g₁ a k (S .branchy a k)) h b
@@ -237,7 +233,7 @@ module _ {n : ℕ} {c : Cache} (S : SoundCache n c) (X P : Bits) (H : ℕ) (px :
   side : fork .0 ≡ getD X (common X E) false
   side =
       let f : Below (shared X E) (fork .0) X = below-trans (subst (λ (p : Bits). Below p (fork .0) P) same (fork .1)) px in
-      subst (λ (k : ℕ). fork .0 ≡ getD X k false) (shared-length X E) (below-bit f (goes-on (shared-left X E) (below-< f)))
+      subst (λ (k : ℕ). fork .0 ≡ getD X k false) (shared-length X E) (below-bit f (next-below (shared-left X E) (below-< f)))
 
   insert-stop : Inserted n c (insertAt c (suc n) (c .up x) (not (getD X (common X E) false)) (common X E) P H) P H
   insert-stop =
@@ -274,10 +270,7 @@ insert-first {c} S P H = inserted w S (grown-sound (S .pointers) tt tt g) (grown
 
     g : Grown (Live 0) (Live 1) (trie c) (trie w) Root (entryNode 1) P (some H)
     g = record {
-      fresh = λ l. omega arith;
-      live-old = λ a l. omega arith;
-      live-new = omega arith;
-      live-inv = λ a l. inr (one a l);
+      joined = record { fresh = λ l. omega arith; old = λ a l. omega arith; new = omega arith; inv = λ a l. inr (one a l) };
       prefix-old = λ a l. absurd (omega arith);
       prefix-new = prefix-entry w 1 ∙ upd-same _ _ _ _ 1 refl;
       hop-old = λ a l. absurd (omega arith);

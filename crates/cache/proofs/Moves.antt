@@ -1,6 +1,6 @@
 -- The steps of a removal on the nodes: an entry and its branch are cut out, an entry is moved, a branch is moved. Assumes nothing.
 use mathlib.Core.Path.{_≡_, refl, sym, ap, ap₂, _∙_, subst}
-use mathlib.Core.Bool.{Bool, true, false, not, Bool-discrete, false≢true}
+use mathlib.Core.Bool.{Bool, true, false, not, false≢true}
 use mathlib.Core.Logic.{_⊎_, inl, inr}
 use mathlib.Core.Option.{Option, none, some, Option·none-ne-some}
 use Prim.Native.Nat.{ℕ, _≤_, _<_}
@@ -9,18 +9,18 @@ use native.Mathlib.Omega.{arith}
 use lib.ListN.{length, take}
 use Rattle.prefix.specs.Bits.{Bits}
 use Rattle.prefix.specs.Prefix.{_⊑_, Below}
-use Rattle.prefix.proofs.Booleans.{not-ne, bool-other}
 use Rattle.prefix.proofs.Order.{⊑-trans, ⊑-length, ⊑-total, ⊑-cases, ⊑-take, below-⊑, below-bit, below-trans, take-⊑}
-use Rattle.trie.specs.Trie.{Cell, Root, Kid, Trie, Inside, Fits, Points, Sound, Branchy}
+use Rattle.trie.specs.Trie.{Cell, Root, Kid, Inside, Fits, Points, Sound, Branchy, Removed}
 use Rattle.trie.proofs.Descent.{inject, under}
-use Rattle.trie.proofs.Insertions.{upd, upd-same, upd-other}
-use Rattle.trie.proofs.Cutting.{Cut, cut-sound, cut-full}
-use Rattle.trie.proofs.Moving.{Moved}
-use Rattle.trie.proofs.Removing.{cutAt, cut-at, Without}
+use Rattle.trie.specs.Updates as Updates
+use Rattle.trie.specs.Updates.{cell-dec, upd, cutAt}
+use Rattle.trie.proofs.Stores.{upd-same, upd-other, kid-slot, kid-side, not-root}
+use Rattle.trie.proofs.Moving.{Agrees, agrees-sound, agrees-branchy, Moved}
+use Rattle.trie.proofs.Withdrawing.{Without, pair-removed}
 use Rattle.cache.specs.Slots.{Cache, entryNode, branchNode, cellOf, setEntry, setBranchLength, setChild, setUp, setPrev, setNext}
 use Rattle.cache.specs.Sound.{prefixAt, hopAt, pointer, childAt, cellAt, trie, Slot, Live, InUse, SoundCache}
 use Rattle.cache.specs.Changes.{moveLinks, prune, moveEntry, moveBranch}
-use Rattle.cache.proofs.Nodes.{Node, is-entry, is-branch, node, digit-small, prefix-entry, prefix-branch, hop-entry, hop-branch, child-entry, child-branch, pointer-some, some-pointer, cell-branch, child-cell, prefix-same, hop-same, child-same, root-kid, kid-node, kid-side}
+use Rattle.cache.proofs.Nodes.{Node, is-entry, is-branch, node, digit-small, prefix-entry, prefix-branch, hop-entry, hop-branch, child-entry, child-branch, pointer-some, some-pointer, cell-branch, child-cell, prefix-same, hop-same, child-same}
 use Rattle.cache.proofs.Shape.{hangs, branch-full, branch-short, branch-length}
 
 -- ---- the entry of slot k, which hangs on the side b of the branch in slot j, is cut out with that branch
@@ -50,66 +50,42 @@ module _ {n : ℕ} {c : Cache} (S : SoundCache n c) (k j : ℕ) (b : Bool) (lk :
   x-full : childAt c (Kid (branchNode j) (not b)) ≡ some x
   x-full = child-branch c j (not b) ∙ pointer-some x (branch-full S j (not b) (parent-slot .0) (parent-slot .1))
 
-  abbrev v₁ : Trie
-  v₁ = cutAt (trie c) (entryNode k) none
+  live-j : Live n (branchNode j)
+  live-j = omega (arith, parent-slot)
 
-  k₁ : Cut (Live n) (Without (Live n) (entryNode k)) (trie c) v₁ (entryNode k) none
-  k₁ = cut-at (Live n) (trie c) (entryNode k) none (λ z i h. absurd (Option·none-ne-some i (sym (child-entry c k z) ∙ h))) (λ i e. absurd (Option·none-ne-some i e))
+  -- both cut out of the trie, which is as the cache has it
+  cut : Removed (Live n) (Left n k j) (trie c) (cutAt (cutAt (trie c) (entryNode k) none) (branchNode j) (some x)) (prefixAt c (entryNode k))
+  cut = pair-removed (S .pointers) (S .branchy) (entryNode k) live-k (child-entry c k) (c .hop k) (hop-entry c k) (branchNode j) b cell-k (hop-branch c j) x x-full
 
-  T₁ : Sound (Without (Live n) (entryNode k)) v₁
-  T₁ = cut-sound (S .pointers) live-k k₁
-
-  live-j : Without (Live n) (entryNode k) (branchNode j)
-  live-j = let s = parent-slot in (omega arith, λ z. omega arith)
-
-  v-none : v₁ .child (Kid (branchNode j) b) ≡ none
-  v-none = subst (λ (e : Cell). v₁ .child e ≡ none) cell-k (k₁ .child-cell)
-
-  v-some : v₁ .child (Kid (branchNode j) (not b)) ≡ some x
-  v-some = k₁ .child-old (Kid (branchNode j) (not b)) live-j (λ z. not-ne b (kid-side (z ∙ cell-k))) ∙ x-full
-
-  v-only : (z : Bool) (i : ℕ) → v₁ .child (Kid (branchNode j) z) ≡ some i → some x ≡ some i
-  v-only z i h = go (Bool-discrete z b)
-    where
-      go : Dec (z ≡ b) → some x ≡ some i
-      go (yes e) = absurd (Option·none-ne-some i (sym v-none ∙ ap (λ (y : Bool). v₁ .child (Kid (branchNode j) y)) (sym e) ∙ h))
-      go (no ne) = sym v-some ∙ ap (λ (y : Bool). v₁ .child (Kid (branchNode j) y)) (sym (bool-other z b ne)) ∙ h
-
-  v-up : v₁ .up (branchNode j) ≡ cellAt (c .up (branchNode j))
-  v-up = k₁ .up-old (branchNode j) live-j (λ e. Option·none-ne-some (branchNode j) e)
-
-  k₂ : Cut (Without (Live n) (entryNode k)) (Left n k j) v₁ (trie (prune c j b)) (branchNode j) (some x)
-  unfolding prune setChild setUp
-  k₂ = record {
-    live-old = λ a l ne. (l, ne);
-    live-inv = λ a l. l .0;
-    live-gone = λ l. l .1 refl;
-    prefix-old = λ a l. prefix-same c (prune c j b) a refl refl ∙ sym (k₁ .prefix-old a (l .0));
-    hop-old = λ a l. hop-same c (prune c j b) a refl ∙ sym (k₁ .hop-old a (l .0));
-    only = v-only;
-    kid-side = λ i e. (not b, v-some ∙ e);
-    kid-up = λ i e. let z : x ≡ i = cc in ap cellAt (upd-same _ _ _ _ i (sym z)) ∙ sym v-up;
-    up-old = λ a l ne. ap cellAt (upd-other _ _ _ _ a (λ z. ne (ap {B = Option ℕ} some (sym z)))) ∙ sym (k₁ .up-old a (l .0) (λ e. Option·none-ne-some a e));
-    child-cell = ap (childAt (prune c j b)) v-up ∙ child-cell (prune c j b) (c .up (branchNode j)) ∙ ap pointer (upd-same _ _ _ _ (c .up (branchNode j)) refl) ∙ sym (child-branch c j (not b)) ∙ x-full;
-    child-old = λ e i ne. child-same c (prune c j b) (Left n k j) (λ l. omega (arith, l .0 .0)) e i (λ r z. upd-other _ _ _ _ r (λ y. ne (z ∙ ap cellAt y ∙ sym v-up))) ∙ sym (k₁ .child-old e (wider e i) (other e i));
+  agrees : Agrees (Left n k j) (cutAt (cutAt (trie c) (entryNode k) none) (branchNode j) (some x)) (trie (prune c j b))
+  unfolding cutAt Updates.setUpOf Updates.updOf Updates.setChild prune setChild setUp
+  agrees = record {
+    prefix = λ a l. prefix-same c (prune c j b) a refl refl;
+    hop = λ a l. hop-same c (prune c j b) a refl;
+    up = λ a l. up a (ℕ-discrete a x);
+    child = λ e i. child e i (cell-dec e (cellAt (c .up (branchNode j))));
   }
     where
-      wider : (e : Cell) → Inside (Left n k j) e → Inside (Without (Live n) (entryNode k)) e
-      wider Root i = tt
-      wider (Kid a z) l = l .0
+      up : (a : ℕ) → Dec (a ≡ x) → cellAt (upd ℕ-discrete (c .up) x (c .up (branchNode j)) a) ≡ upd ℕ-discrete (λ y. cellAt (c .up y)) x (cellAt (c .up (branchNode j))) a
+      up a (yes z) = ap cellAt (upd-same _ _ _ _ a z) ∙ sym (upd-same ℕ-discrete (λ y. cellAt (c .up y)) x (cellAt (c .up (branchNode j))) a z)
+      up a (no ne) = ap cellAt (upd-other _ _ _ _ a ne) ∙ sym (upd-other ℕ-discrete (λ y. cellAt (c .up y)) x (cellAt (c .up (branchNode j))) a ne)
 
+      -- the cell of entry k goes with its branch
       other : (e : Cell) → Inside (Left n k j) e → ¬ (e ≡ cellAt (c .up (entryNode k)))
-      other Root i z = root-kid (z ∙ cell-k)
-      other (Kid a y) l z = l .1 (kid-node (z ∙ cell-k))
+      other Root i z = not-root (sym (z ∙ cell-k))
+      other (Kid a y) l z = l .1 (kid-slot (z ∙ cell-k))
+
+      child : (e : Cell) → Inside (Left n k j) e → Dec (e ≡ cellAt (c .up (branchNode j))) → childAt (prune c j b) e ≡ upd cell-dec (upd cell-dec (childAt c) (cellAt (c .up (entryNode k))) none) (cellAt (c .up (branchNode j))) (some x) e
+      child e i (yes z) = ap (childAt (prune c j b)) z ∙ child-cell (prune c j b) (c .up (branchNode j)) ∙ ap pointer (upd-same _ _ _ _ (c .up (branchNode j)) refl) ∙ sym (child-branch c j (not b)) ∙ x-full ∙ sym (upd-same cell-dec _ _ _ e z)
+      child e i (no ne) =
+          child-same c (prune c j b) (Left n k j) (λ l. omega (arith, l .0 .0)) e i (λ r z. upd-other _ _ _ _ r (λ y. ne (z ∙ ap cellAt y)))
+          ∙ sym (upd-other cell-dec _ _ _ e ne ∙ upd-other cell-dec (childAt c) _ _ e (other e i))
 
   pub prune-sound : Sound (Left n k j) (trie (prune c j b))
-  prune-sound = cut-sound T₁ live-j k₂
+  prune-sound = agrees-sound agrees (cut .sound)
 
   pub prune-branchy : Branchy (Left n k j) (trie (prune c j b))
-  prune-branchy a l h y =
-      let t = S .branchy a (l .0 .0) (sym (k₁ .hop-old a (l .0)) ∙ sym (k₂ .hop-old a l) ∙ h) y in
-      let s = cut-full (S .pointers) live-k k₁ (Kid a y) (t .0) (l .0) (t .1) (λ z. absurd (l .1 (kid-node (z ∙ cell-k)))) in
-      cut-full T₁ live-j k₂ (Kid a y) (s .0) l (s .1) (λ z. (x, refl))
+  prune-branchy = agrees-branchy agrees (cut .sound) (cut .branchy)
 
   -- the branch of slot k, if it has another than j's, keeps its prefix when entry j takes the place of entry k: it stands above both
   pub relocated : 1 < k → ¬ (j ≡ k) → take (c .branchLength k) (c .entry j) ≡ take (c .branchLength k) (c .entry k)
@@ -140,7 +116,7 @@ module _ {n : ℕ} {c : Cache} (S : SoundCache n c) (k j : ℕ) (b : Bool) (lk :
       under-k : (y : Bool) → Below (p (branchNode j)) y (p (branchNode k)) → ⊥
       under-k y t =
           let z : y ≡ b = below-bit (below-trans t own) fits-k in
-          let w = under (S .pointers) (branchNode j) (branchNode k) b (live-j .0) live-b (subst (λ (y : Bool). Below (p (branchNode j)) y (p (branchNode k))) z t) in
+          let w = under (S .pointers) (branchNode j) (branchNode k) b live-j live-b (subst (λ (y : Bool). Below (p (branchNode j)) y (p (branchNode k))) z t) in
           let r : childAt c (Kid (branchNode j) b) ≡ some (entryNode k) = subst (λ (e : Cell). childAt c e ≡ some (entryNode k)) cell-k (S .pointers .owned (entryNode k) live-k .child) in
           let i : w .0 ≡ entryNode k = cc (w .1) in
           omega (arith, ⊑-length (w .2), ap (λ (a : ℕ). length (p a)) i, branch-length S k h (lk .1), branch-short S k h (lk .1), ap length (prefix-entry c k))
@@ -150,7 +126,7 @@ module _ {n : ℕ} {c : Cache} (S : SoundCache n c) (k j : ℕ) (b : Bool) (lk :
       go (inr q) = sub (⊑-cases q)
         where
           sub : (p (branchNode j) ≡ p (branchNode k)) ⊎ ((y : Bool) × Below (p (branchNode j)) y (p (branchNode k))) → p (branchNode k) ⊑ p (branchNode j)
-          sub (inl e) = let z : branchNode j ≡ branchNode k = inject (S .pointers) (branchNode j) (branchNode k) (live-j .0) live-b e in absurd (ne (omega arith))
+          sub (inl e) = let z : branchNode j ≡ branchNode k = inject (S .pointers) (branchNode j) (branchNode k) live-j live-b e in absurd (ne (omega arith))
           sub (inr t) = absurd (under-k (t .0) (t .1))
 
 -- ---- the entry of slot s goes to slot t

@@ -8,6 +8,7 @@ use lib.ListN.{take}
 use Rattle.prefix.specs.Bits.{one?, digit}
 use Rattle.prefix.proofs.BitLaws.{digit-one}
 use Rattle.trie.specs.Trie.{Cell, Root, Kid, Inside}
+use Rattle.trie.proofs.Stores.{kid-slot, kid-side, not-root}
 use Rattle.cache.specs.Slots.{Cache, entryNode, branchNode, cellOf, rootCell}
 use Rattle.cache.specs.Sound.{prefixAt, hopAt, pointer, childAt, cellAt}
 
@@ -107,22 +108,13 @@ child-cell c zero = rw cell-root
 child-cell c (suc q) =
     ap (childAt c) (cell-suc (suc q) (omega arith)) ∙ child-branch c (suc q / 2) (one? (suc q % 2)) ∙ ap (λ (k : ℕ). pointer (c .child k)) (sym (cell-split (suc q)))
 
-pub kid-node : {x y : ℕ} {b d : Bool} → Kid x b ≡ Kid y d → x ≡ y
-kid-node e = cc
-
-pub kid-side : {x y : ℕ} {b d : Bool} → Kid x b ≡ Kid y d → b ≡ d
-kid-side e = cc
-
-pub root-kid : {x : ℕ} {b : Bool} → ¬ (Root ≡ Kid x b)
-root-kid e = let z : _≡_ {A = ℕ} 0 1 = cc in omega arith
-
 pub cell-inj : (q r : ℕ) → cellAt q ≡ cellAt r → q ≡ r
 unfolding cellAt
 cell-inj zero zero e = refl
-cell-inj zero (suc r) e = absurd (root-kid e)
-cell-inj (suc q) zero e = absurd (root-kid (sym e))
+cell-inj zero (suc r) e = absurd (not-root (sym e))
+cell-inj (suc q) zero e = absurd (not-root e)
 cell-inj (suc q) (suc r) e =
-    let s : 2 * (suc q / 2) + 1 ≡ 2 * (suc r / 2) + 1 = kid-node e in
+    let s : 2 * (suc q / 2) + 1 ≡ 2 * (suc r / 2) + 1 = kid-slot e in
     let t : digit (one? (suc q % 2)) ≡ digit (one? (suc r % 2)) = ap digit (kid-side e) in
     omega (arith, cell-split (suc q), cell-split (suc r))
 

@@ -15,9 +15,8 @@ use Rattle.prefix.specs.Prefix.{_⊑_}
 use Rattle.model.specs.Lists.{_∈_}
 use Rattle.trie.specs.Trie.{Cell, Root, Kid, Trie, Inside, Points, Sound, Branchy}
 use Rattle.trie.proofs.Descent.{root-least}
-use Rattle.trie.proofs.Insertions.{upd-same, upd-other}
-use Rattle.trie.proofs.Cutting.{Renamed, renamed-sound, renamed-branchy}
-use Rattle.trie.proofs.Moving.{ren, ren-s, ren-other, moved-renamed}
+use Rattle.trie.proofs.Stores.{upd-same, upd-other}
+use Rattle.trie.proofs.Moving.{Renamed, renamed-sound, renamed-branchy, agrees-self, agrees-renamed, ren, ren-s, ren-other, moved-renamed}
 use Rattle.cache.specs.Slots.{Cache, entryNode, branchNode, cellOf, rootCell, setEntry, setBranchLength, setChild, setUp, setPrev, setNext}
 use Rattle.cache.specs.Sound.{prefixAt, pointer, childAt, cellAt, trie, Slot, Live, InUse, SoundCache, entryOf, order}
 use Rattle.cache.specs.Changes.{unlink, moveLinks, removeOnly, prune, moveEntry, moveBranch, fillEntry, fillSlot, removeAt}
@@ -82,32 +81,21 @@ module _ {b : Cache} {l : List ℕ} {live live′ : ℕ → Type 0} {n s : ℕ} 
     moved = O .moved;
   }
 
--- the live nodes said in another way
-sound-iff : {live live′ : ℕ → Type 0} {v : Trie} → ((a : ℕ) → live a → live′ a) → ((a : ℕ) → live′ a → live a) → Sound live v → Sound live′ v
-sound-iff {live} {live′} {v} f g S = record {
-  points = λ e j i h. let p = S .points e j (back e i) h in record { is-live = f j (p .is-live); back = p .back; fits = p .fits };
-  owned = λ a l. let o = S .owned a (g a l) in record { inside = forth (v .up a) (o .inside); child = o .child };
-}
-  where
-    back : (e : Cell) → Inside live′ e → Inside live e
-    back Root i = tt
-    back (Kid a b) l = g a l
-
-    forth : (e : Cell) → Inside live e → Inside live′ e
-    forth Root i = tt
-    forth (Kid a b) l = f a l
-
 -- all nodes but those of the last slot
 shrink : (n a : ℕ) → Live (suc n) a → ¬ (a ≡ entryNode (suc n)) → ¬ (a ≡ branchNode (suc n)) → Live n a
 shrink n a l p q = omega arith
 
 removed : {n : ℕ} {c w : Cache} {k : ℕ} {place : ℕ → ℕ} {live : ℕ → Type 0} → ((a : ℕ) → live a → Live n a) → ((a : ℕ) → Live n a → live a) → SoundCache (suc n) c → Open c (without k (order (suc n) c)) live n (suc n) place w → Removed n c w k place
-removed {n} {c} {w} {k} {place} f g S O = record {
-  sound = record { pointers = sound-iff f g (O .pointers); branchy = λ a l. O .branchy a (g a l); ring = order-ring (hole-end (O .hole)) };
+removed {n} {c} {w} {k} {place} {live} f g S O = record {
+  sound = record { pointers = renamed-sound (O .pointers) same; branchy = renamed-branchy (O .pointers) same (O .branchy); ring = order-ring (hole-end (O .hole)) };
   holds = entries-of (hole-end (O .hole)) ∙ map-map (entryOf w) place (without k (order (suc n) c)) ∙ map-same (λ i. entryOf w (place i)) (entryOf c) (without k (order (suc n) c)) (O .moved);
   slots = order-is (hole-end (O .hole));
   moved = λ i h ne. O .moved i (without-keep k (order (suc n) c) i ne (order-all (ring-order (S .ring)) i h));
 }
+  where
+    -- the live nodes, said in another way
+    same : Renamed live (Live n) (trie w) (trie w) (λ a. a)
+    same = agrees-renamed (agrees-self (trie w)) f g
 
 module _ {n : ℕ} {c : Cache} (S : SoundCache (suc n) c) (k j : ℕ) (b : Bool) (lk : Slot (suc n) k) (is-up : c .up (entryNode k) ≡ cellOf j b) (pos : 0 < j) where
   abbrev l : List ℕ

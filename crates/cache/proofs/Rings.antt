@@ -5,7 +5,8 @@ use mathlib.Core.Logic.{_⊎_, inl, inr}
 use Prim.Native.Nat.{ℕ, suc}
 use native.Mathlib.Decide.{ℕ-discrete}
 use lib.ListN.{length}
-use Rattle.trie.proofs.Insertions.{upd, upd-same, upd-other}
+use Rattle.trie.specs.Updates.{upd}
+use Rattle.trie.proofs.Stores.{upd-same, upd-other}
 use Rattle.trie.proofs.Moving.{ren, ren-s, ren-other}
 use Rattle.trie.proofs.Pigeonhole.{Distinct}
 use Rattle.cache.specs.Slots.{Cache, setPrev, setNext}

@@ -4,7 +4,8 @@ use mathlib.Core.Bool.{Bool, true, false, not}
 use Prim.Native.Nat.{ℕ}
 use native.Mathlib.Decide.{ℕ-discrete}
 use Rattle.prefix.specs.Bits.{Bits}
-use Rattle.trie.proofs.Insertions.{upd, upd-same, upd-other}
+use Rattle.trie.specs.Updates.{upd}
+use Rattle.trie.proofs.Stores.{upd-same, upd-other}
 use Rattle.cache.specs.Slots.{Cache, entryNode, branchNode, cellOf, rootCell, setEntry, setBranchLength, setChild, setUp, setPrev, setNext}
 use Rattle.cache.specs.Changes.{unlink, pushFront, moveLinks, insertFirst, hang, removeOnly, prune, moveEntry, moveBranch}
 

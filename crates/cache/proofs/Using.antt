@@ -1,20 +1,23 @@
 -- An entry is used, or gets another hop; and the entry that was used least recently. Assumes nothing.
 use mathlib.Core.Path.{_≡_, refl, sym, ap, _∙_, subst, fun-ext}
-use mathlib.Core.Bool.{Bool}
 use mathlib.Core.List.{List, [], _∷_, _++_, map, map-map, map-append, List·Memᴰ, List·Memᴰ·head, List·Memᴰ·tail}
-use mathlib.Core.Option.{none, some, Option·some-ne-none}
+use mathlib.Core.Option.{Option, some}
 use Prim.Native.Nat.{ℕ, suc}
 use native.Mathlib.Decide.{ℕ-discrete}
-use Rattle.prefix.specs.Bits.{Bits}
+use native.Mathlib.Omega.{arith}
 use Rattle.model.specs.Model.{Entry}
-use Rattle.trie.specs.Trie.{Cell, Root, Kid, Trie, Fits, Sound, Branchy}
-use Rattle.trie.proofs.Insertions.{upd-same, upd-other}
+use Rattle.trie.specs.Trie.{Cell, Root, Kid, Trie, Sound, Branchy, Put}
+use Rattle.trie.proofs.Stores.{upd-same, upd-other}
+use Rattle.trie.proofs.Announcing.{put-hop}
+use Rattle.trie.proofs.Moving.{Agrees, agrees-sound, agrees-branchy}
+use Rattle.trie.specs.Updates as Updates
+use Rattle.trie.specs.Updates.{upd}
 use Rattle.trie.proofs.Pigeonhole.{Distinct}
-use Rattle.cache.specs.Slots.{Cache, setHop, setPrev, setNext}
-use Rattle.cache.specs.Sound.{prefixAt, hopAt, childAt, cellAt, trie, Slot, Live, Ring, SoundCache, entryOf, order, entries}
+use Rattle.cache.specs.Slots.{Cache, entryNode, branchNode, setHop, setPrev, setNext}
+use Rattle.cache.specs.Sound.{prefixAt, hopAt, childAt, trie, Slot, Live, Ring, SoundCache, entryOf, order, entries}
 use Rattle.cache.specs.Changes.{unlink, pushFront, toFront}
 use Rattle.cache.specs.Results.{without, others}
-use Rattle.cache.proofs.Nodes.{Node, is-entry, is-branch, node, hop-entry, hop-branch}
+use Rattle.cache.proofs.Nodes.{Node, is-entry, is-branch, node, prefix-entry, hop-entry, hop-branch, prefix-same}
 use Rattle.cache.proofs.Rings.{mem-last, without-last}
 use Rattle.cache.proofs.Orders.{Order, ring-order, order-ring, order-is, order-same, order-distinct, in-slot, order-front, order-last}
 
@@ -94,28 +97,30 @@ module _ {n : ℕ} {c : Cache} (S : SoundCache n c) where
 
   -- ---- an entry gets another hop
 
-  module _ (k h : ℕ) where
-    pub hop-sound : SoundCache n (setHop c k h)
-    unfolding setHop prefixAt
-    hop-sound = record {
-      pointers = record {
-        points = λ e j i f. let p = S .pointers .points e j i (child e f) in record { is-live = p .is-live; back = p .back; fits = fits e (prefixAt c j) (p .fits) };
-        owned = λ j l. let o = S .pointers .owned j l in record { inside = o .inside; child = child-path c (setHop c k h) refl (cellAt (c .up j)) ∙ o .child };
-      };
-      branchy = λ a l f b. go a l b (node a) f;
-      ring = order-ring (order-same (setHop c k h) refl refl (ring-order (S .ring)));
+  module _ (k h : ℕ) (lk : Slot n k) where
+    put : Put (Live n) (Live n) (trie c) (Updates.hopAt (trie c) (entryNode k) h) (c .entry k) h
+    put = put-hop (S .pointers) (S .branchy) (entryNode k) (c .entry k) h (omega arith) (prefix-entry c k)
+
+    agrees : Agrees (Live n) (Updates.hopAt (trie c) (entryNode k) h) (trie (setHop c k h))
+    unfolding Updates.hopAt Updates.setHop setHop
+    agrees = record {
+      prefix = λ a l. prefix-same c (setHop c k h) a refl refl;
+      hop = λ a l. hop a (node a);
+      up = λ a l. refl;
+      child = λ e i. child-path c (setHop c k h) refl e;
     }
       where
-        child : (e : Cell) {j : ℕ} → childAt (setHop c k h) e ≡ some j → childAt c e ≡ some j
-        child e f = sym (child-path c (setHop c k h) refl e) ∙ f
+        hop : (a : ℕ) → Node a → hopAt (setHop c k h) a ≡ upd ℕ-discrete (hopAt c) (entryNode k) (some h) a
+        hop a (is-branch i e) = rw e (hop-branch (setHop c k h) i ∙ sym (upd-other ℕ-discrete (hopAt c) (entryNode k) (some h) (branchNode i) (λ z. omega arith) ∙ hop-branch c i))
+        hop a (is-entry i e) = rw e (hop-entry (setHop c k h) i ∙ go (ℕ-discrete i k))
+          where
+            go : Dec (i ≡ k) → some (upd ℕ-discrete (c .hop) k h i) ≡ upd ℕ-discrete (hopAt c) (entryNode k) (some h) (entryNode i)
+            go (yes z) = ap {B = Option ℕ} some (upd-same _ _ _ _ i z) ∙ sym (upd-same ℕ-discrete (hopAt c) (entryNode k) (some h) (entryNode i) (ap entryNode z))
+            go (no ne) = ap {B = Option ℕ} some (upd-other _ _ _ _ i ne) ∙ sym (upd-other ℕ-discrete (hopAt c) (entryNode k) (some h) (entryNode i) (λ z. ne (omega arith)) ∙ hop-entry c i)
 
-        fits : (e : Cell) (p : Bits) → Fits (trie c) e p → Fits (trie (setHop c k h)) e p
-        fits Root p f = tt
-        fits (Kid a b) p f = f
-
-        go : (a : ℕ) → Live n a → (b : Bool) → Node a → hopAt (setHop c k h) a ≡ none → (j : ℕ) × (childAt (setHop c k h) (Kid a b) ≡ some j)
-        go a l b (is-entry i e) f = absurd (Option·some-ne-none _ (sym (hop-entry (setHop c k h) i) ∙ ap (hopAt (setHop c k h)) (sym e) ∙ f))
-        go a l b (is-branch i e) f = let t = S .branchy a l (ap (hopAt c) e ∙ hop-branch c i) b in (t .0, child-path c (setHop c k h) refl (Kid a b) ∙ t .1)
+    pub hop-sound : SoundCache n (setHop c k h)
+    unfolding setHop
+    hop-sound = record { pointers = agrees-sound agrees (put .sound); branchy = agrees-branchy agrees (put .sound) (put .branchy); ring = order-ring (order-same (setHop c k h) refl refl (ring-order (S .ring))) }
 
     -- f changes the one entry's hop and leaves the others
     pub hop-entries : (f : Entry → Entry) → f (entryOf c k) ≡ record { prefix = c .entry k; hop = h } → ((i : ℕ) → Slot n i → ¬ (i ≡ k) → f (entryOf c i) ≡ entryOf c i) → entries n (setHop c k h) ≡ map f (entries n c)

@@ -1,21 +1,20 @@
 -- The walk by an address stops at the entry that contains it, or at one that has the most in common with it. Assumes nothing.
 use mathlib.Core.Path.{_≡_, refl, ap, _∙_, subst}
 use mathlib.Core.Bool.{Bool, true, false, _&&_}
-use mathlib.Core.List.{[], _∷_}
 use mathlib.Core.Logic.{_⊎_, inl, inr}
 use Prim.Native.Nat.{ℕ, zero, suc, _+_, _/_, _%_, _≤_, _<_}
-use native.Mathlib.Nat.{not-suc-le-zero, le-of-suc-le-suc}
 use native.Mathlib.Decide.{decLe, decLt}
 use native.Mathlib.Omega.{arith}
 use lib.ListN.{length, getD}
 use borrow.Author.Tests.{le-leb, lt-leb}
 use Rattle.prefix.specs.Bits.{Bits, one?}
-use Rattle.prefix.specs.Prefix.{common, shared, _⊑_, ⊑nil, ⊑cons, Below, here, there}
+use Rattle.prefix.specs.Prefix.{common, shared, _⊑_, Below}
 use Rattle.prefix.proofs.Order.{⊑-refl, ⊑-trans, ⊑-length, ⊑-by-length, ⊑-total, below-⊑, below-<, below-trans, below-by-length, take-⊑}
 use Rattle.prefix.proofs.Common.{common-sym, shared-left, shared-right, shared-great, shared-length, le-common, common-⊑}
 use Rattle.prefix.proofs.Booleans.{is-false, clash}
 use Rattle.trie.specs.Trie.{Cell, Root, Kid, Fits}
-use Rattle.trie.proofs.Placing.{through}
+use Rattle.trie.proofs.Next.{next-below}
+use Rattle.trie.proofs.Descent.{through}
 use Rattle.cache.specs.Slots.{Cache, entryNode, branchNode, cellOf, rootCell}
 use Rattle.cache.specs.Sound.{prefixAt, pointer, cellAt, trie, Slot, Live, InUse, SoundCache}
 use Rattle.cache.specs.Changes.{passes, towards, walk, find}
@@ -61,12 +60,6 @@ module _ (c : Cache) (X : Bits) where
 pub record On (n : ℕ) (c : Cache) (X : Bits) (x : ℕ) : Type 0 where
   pub live : Live n x
   pub fits : Fits (trie c) (cellAt (c .up x)) X
-
--- the bit by which X goes on from p
-pub goes-on : {p X : Bits} → p ⊑ X → length p < length X → Below p (getD X (length p) false) X
-goes-on (⊑nil {x = []}) h = absurd (not-suc-le-zero h)
-goes-on (⊑nil {x = b ∷ y}) h = here refl
-goes-on (⊑cons e p) h = there e (goes-on p (le-of-suc-le-suc h))
 
 module _ {n : ℕ} {c : Cache} (S : SoundCache n c) (X : Bits) where
   on-cell : (q : ℕ) → InUse n q → 0 < c .child q → Fits (trie c) (cellAt q) X → On n c X (c .child q)
@@ -128,7 +121,7 @@ module _ {n : ℕ} {c : Cache} (S : SoundCache n c) (X : Bits) where
             f =
                 let m = branch-length S i lo hi in
                 subst (λ (k : ℕ). Below (prefixAt c (branchNode i)) (getD X k false) X) m
-                (goes-on (passed-⊑ i lo hi l) (omega (arith, m, branch-short S i lo hi, short i (omega (arith, lo, hi)))))
+                (next-below (passed-⊑ i lo hi l) (omega (arith, m, branch-short S i lo hi, short i (omega (arith, lo, hi)))))
 
     -- with a step for each length the walk comes to its end
     pub walk-ends : (f x : ℕ) → On n c X x → length X < f + length (prefixAt c x) → On n c X (walk c X f x) × (passes c X (walk c X f x) ≡ false)

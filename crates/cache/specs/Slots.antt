@@ -6,7 +6,7 @@ use Prim.Native.Nat.{ℕ, _+_, _*_}
 use native.Mathlib.Decide.{ℕ-discrete}
 use mathlib.Core.Bool.{Bool}
 use Rattle.prefix.specs.Bits.{Bits, digit}
-use Rattle.trie.proofs.Insertions.{upd}
+use Rattle.trie.specs.Updates.{upd}
 
 pub record Cache : Type 0 where
   -- of a slot: its entry's prefix and hop, and the length of its branch
