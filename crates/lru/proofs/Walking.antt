@@ -15,12 +15,12 @@ use Rattle.prefix.proofs.Booleans.{is-false, clash}
 use Rattle.trie.specs.Trie.{Cell, Root, Kid, Fits}
 use Rattle.trie.proofs.Next.{next-below}
 use Rattle.trie.proofs.Descent.{through}
-use Rattle.cache.specs.Slots.{Cache, entryNode, branchNode, cellOf, rootCell}
-use Rattle.cache.specs.Sound.{prefixAt, pointer, cellAt, trie, Slot, Live, InUse, SoundCache}
-use Rattle.cache.specs.Changes.{passes, towards, walk, find}
-use Rattle.cache.specs.Results.{Short, Nearest}
-use Rattle.cache.proofs.Nodes.{Node, is-entry, is-branch, node, digit-small, prefix-entry, prefix-branch, pointer-some, child-cell, cell-root, cell-branch}
-use Rattle.cache.proofs.Shape.{pointed, hangs, root-full, branch-full, inside-cell, apart, branch-short, branch-length, prefix-slot}
+use Rattle.lru.specs.Slots.{Cache, entryNode, branchNode, cellOf, rootCell}
+use Rattle.lru.specs.Sound.{prefixAt, pointer, cellAt, trie, Slot, Live, InUse, SoundCache}
+use Rattle.lru.specs.Changes.{passes, towards, walk, find}
+use Rattle.lru.specs.Results.{Short, Nearest}
+use Rattle.lru.proofs.Nodes.{Node, is-entry, is-branch, node, digit-small, prefix-entry, prefix-branch, pointer-some, child-cell, cell-root, cell-branch}
+use Rattle.lru.proofs.Shape.{pointed, hangs, root-full, branch-full, inside-cell, apart, branch-short, branch-length, prefix-slot}
 
 -- ---- the walk, as a loop takes it: start, one step, and the two ends
 

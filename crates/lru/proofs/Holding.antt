@@ -18,13 +18,13 @@ use Rattle.model.specs.Model.{Entry}
 use Rattle.model.specs.Demands.{NoOverlap, NoLonger}
 use Rattle.model.proofs.ListLaws.{le-largest, largest-in, Pairwise-map}
 use Rattle.trie.proofs.Pigeonhole.{Distinct}
-use Rattle.cache.specs.Slots.{Cache}
-use Rattle.cache.specs.Sound.{Slot, SoundCache, entryOf, order, entries}
-use Rattle.cache.specs.Results.{Short, Nearest, Free, without, others, Removed}
-use Rattle.cache.proofs.Shape.{no-overlap}
-use Rattle.cache.proofs.Rings.{without-length}
-use Rattle.cache.proofs.Orders.{ring-order, in-slot, order-all, order-distinct}
-use Rattle.cache.proofs.Using.{oldest-slot, oldest-last}
+use Rattle.lru.specs.Slots.{Cache}
+use Rattle.lru.specs.Sound.{Slot, SoundCache, entryOf, order, entries}
+use Rattle.lru.specs.Results.{Short, Nearest, Free, without, others, Removed}
+use Rattle.lru.proofs.Shape.{no-overlap}
+use Rattle.lru.proofs.Rings.{without-length}
+use Rattle.lru.proofs.Orders.{ring-order, in-slot, order-all, order-distinct}
+use Rattle.lru.proofs.Using.{oldest-slot, oldest-last}
 
 -- ---- lists of slots
 

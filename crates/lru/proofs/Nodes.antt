@@ -9,8 +9,8 @@ use Rattle.prefix.specs.Bits.{one?, digit}
 use Rattle.prefix.proofs.BitLaws.{digit-one}
 use Rattle.trie.specs.Trie.{Cell, Root, Kid, Inside}
 use Rattle.trie.proofs.Stores.{kid-slot, kid-side, not-root}
-use Rattle.cache.specs.Slots.{Cache, entryNode, branchNode, cellOf, rootCell}
-use Rattle.cache.specs.Sound.{prefixAt, hopAt, pointer, childAt, cellAt}
+use Rattle.lru.specs.Slots.{Cache, entryNode, branchNode, cellOf, rootCell}
+use Rattle.lru.specs.Sound.{prefixAt, hopAt, pointer, childAt, cellAt}
 
 -- ---- nodes
 

@@ -10,8 +10,8 @@ use Rattle.prefix.specs.Bits.{Bits}
 use Rattle.prefix.specs.Prefix.{overlap, common, _⊑_}
 use Rattle.model.specs.Model.{Entry}
 use Rattle.trie.proofs.Moving.{ren}
-use Rattle.cache.specs.Slots.{Cache}
-use Rattle.cache.specs.Sound.{Slot, Live, InUse, SoundCache, entryOf, order, entries}
+use Rattle.lru.specs.Slots.{Cache}
+use Rattle.lru.specs.Sound.{Slot, Live, InUse, SoundCache, entryOf, order, entries}
 
 -- ---- the walk
 

@@ -17,11 +17,11 @@ use Rattle.trie.specs.Updates.{cell-dec, upd, cutAt}
 use Rattle.trie.proofs.Stores.{upd-same, upd-other, kid-slot, kid-side, not-root}
 use Rattle.trie.proofs.Moving.{Agrees, agrees-sound, agrees-branchy, Moved}
 use Rattle.trie.proofs.Withdrawing.{Without, pair-removed}
-use Rattle.cache.specs.Slots.{Cache, entryNode, branchNode, cellOf, setEntry, setBranchLength, setChild, setUp, setPrev, setNext}
-use Rattle.cache.specs.Sound.{prefixAt, hopAt, pointer, childAt, cellAt, trie, Slot, Live, InUse, SoundCache}
-use Rattle.cache.specs.Changes.{moveLinks, prune, moveEntry, moveBranch}
-use Rattle.cache.proofs.Nodes.{Node, is-entry, is-branch, node, digit-small, prefix-entry, prefix-branch, hop-entry, hop-branch, child-entry, child-branch, pointer-some, some-pointer, cell-branch, child-cell, prefix-same, hop-same, child-same}
-use Rattle.cache.proofs.Shape.{hangs, branch-full, branch-short, branch-length}
+use Rattle.lru.specs.Slots.{Cache, entryNode, branchNode, cellOf, setEntry, setBranchLength, setChild, setUp, setPrev, setNext}
+use Rattle.lru.specs.Sound.{prefixAt, hopAt, pointer, childAt, cellAt, trie, Slot, Live, InUse, SoundCache}
+use Rattle.lru.specs.Changes.{moveLinks, prune, moveEntry, moveBranch}
+use Rattle.lru.proofs.Nodes.{Node, is-entry, is-branch, node, digit-small, prefix-entry, prefix-branch, hop-entry, hop-branch, child-entry, child-branch, pointer-some, some-pointer, cell-branch, child-cell, prefix-same, hop-same, child-same}
+use Rattle.lru.proofs.Shape.{hangs, branch-full, branch-short, branch-length}
 
 -- ---- the entry of slot k, which hangs on the side b of the branch in slot j, is cut out with that branch
 

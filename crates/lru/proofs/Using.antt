@@ -13,13 +13,13 @@ use Rattle.trie.proofs.Moving.{Agrees, agrees-sound, agrees-branchy}
 use Rattle.trie.specs.Updates as Updates
 use Rattle.trie.specs.Updates.{upd}
 use Rattle.trie.proofs.Pigeonhole.{Distinct}
-use Rattle.cache.specs.Slots.{Cache, entryNode, branchNode, setHop, setPrev, setNext}
-use Rattle.cache.specs.Sound.{prefixAt, hopAt, childAt, trie, Slot, Live, Ring, SoundCache, entryOf, order, entries}
-use Rattle.cache.specs.Changes.{unlink, pushFront, toFront}
-use Rattle.cache.specs.Results.{without, others}
-use Rattle.cache.proofs.Nodes.{Node, is-entry, is-branch, node, prefix-entry, hop-entry, hop-branch, prefix-same}
-use Rattle.cache.proofs.Rings.{mem-last, without-last}
-use Rattle.cache.proofs.Orders.{Order, ring-order, order-ring, order-is, order-same, order-distinct, in-slot, order-front, order-last}
+use Rattle.lru.specs.Slots.{Cache, entryNode, branchNode, setHop, setPrev, setNext}
+use Rattle.lru.specs.Sound.{prefixAt, hopAt, childAt, trie, Slot, Live, Ring, SoundCache, entryOf, order, entries}
+use Rattle.lru.specs.Changes.{unlink, pushFront, toFront}
+use Rattle.lru.specs.Results.{without, others}
+use Rattle.lru.proofs.Nodes.{Node, is-entry, is-branch, node, prefix-entry, hop-entry, hop-branch, prefix-same}
+use Rattle.lru.proofs.Rings.{mem-last, without-last}
+use Rattle.lru.proofs.Orders.{Order, ring-order, order-ring, order-is, order-same, order-distinct, in-slot, order-front, order-last}
 
 -- ---- the trie does not depend on the order of use
 

@@ -17,16 +17,16 @@ use Rattle.trie.specs.Trie.{Cell, Root, Kid, Trie, Inside, Points, Sound, Branc
 use Rattle.trie.proofs.Descent.{root-least}
 use Rattle.trie.proofs.Stores.{upd-same, upd-other}
 use Rattle.trie.proofs.Moving.{Renamed, renamed-sound, renamed-branchy, agrees-self, agrees-renamed, ren, ren-s, ren-other, moved-renamed}
-use Rattle.cache.specs.Slots.{Cache, entryNode, branchNode, cellOf, rootCell, setEntry, setBranchLength, setChild, setUp, setPrev, setNext}
-use Rattle.cache.specs.Sound.{prefixAt, pointer, childAt, cellAt, trie, Slot, Live, InUse, SoundCache, entryOf, order}
-use Rattle.cache.specs.Changes.{unlink, moveLinks, removeOnly, prune, moveEntry, moveBranch, fillEntry, fillSlot, removeAt}
-use Rattle.cache.specs.Results.{without, Removed, placeAfter}
-use Rattle.cache.proofs.Nodes.{prefix-entry, pointer-none, child-cell, cell-root, cell-split}
-use Rattle.cache.proofs.Shape.{hangs, apart}
-use Rattle.cache.proofs.Rings.{without-keep, mem-ne}
-use Rattle.cache.proofs.Orders.{Order, ring-order, order-ring, order-is, order-all, order-same, Hole, hole-make, hole-same, hole-move, hole-end}
-use Rattle.cache.proofs.Using.{unlink-trie, entry-path, map-same, entries-of}
-use Rattle.cache.proofs.Moves.{Left, parent-slot, prune-sound, prune-branchy, relocated, entry-moved, branch-moved}
+use Rattle.lru.specs.Slots.{Cache, entryNode, branchNode, cellOf, rootCell, setEntry, setBranchLength, setChild, setUp, setPrev, setNext}
+use Rattle.lru.specs.Sound.{prefixAt, pointer, childAt, cellAt, trie, Slot, Live, InUse, SoundCache, entryOf, order}
+use Rattle.lru.specs.Changes.{unlink, moveLinks, removeOnly, prune, moveEntry, moveBranch, fillEntry, fillSlot, removeAt}
+use Rattle.lru.specs.Results.{without, Removed, placeAfter}
+use Rattle.lru.proofs.Nodes.{prefix-entry, pointer-none, child-cell, cell-root, cell-split}
+use Rattle.lru.proofs.Shape.{hangs, apart}
+use Rattle.lru.proofs.Rings.{without-keep, mem-ne}
+use Rattle.lru.proofs.Orders.{Order, ring-order, order-ring, order-is, order-all, order-same, Hole, hole-make, hole-same, hole-move, hole-end}
+use Rattle.lru.proofs.Using.{unlink-trie, entry-path, map-same, entries-of}
+use Rattle.lru.proofs.Moves.{Left, parent-slot, prune-sound, prune-branchy, relocated, entry-moved, branch-moved}
 
 -- on the way, c has n entries in slots of 1 to n + 1: its nodes are those of live, slot h is free, and what the cache b has in the slots
 -- l, in that order of use, c has in the slots `place`

@@ -15,14 +15,14 @@ use Rattle.prefix.proofs.Common.{le-common, common-⊑}
 use Rattle.trie.specs.Trie.{Cell, Root, Kid, Inside, Fits, Points, Owned}
 use Rattle.trie.proofs.Pigeonhole.{Distinct, pigeonhole}
 use Rattle.trie.proofs.Next.{next-below}
-use Rattle.cache.specs.Slots.{Cache, entryNode, branchNode, cellOf, rootCell}
-use Rattle.cache.specs.Sound.{prefixAt, hopAt, pointer, childAt, cellAt, trie, Slot, Live, along, Ring, SoundCache, order}
-use Rattle.cache.specs.Checks.{lengthAt, Hangs, Leads, BranchOk, RootOk, Checked, Walked}
-use Rattle.cache.specs.Results.{without}
-use Rattle.cache.proofs.Nodes.{Node, is-entry, is-branch, node, digit-small, prefix-entry, prefix-branch, hop-entry, child-entry, child-branch, pointer-some, some-pointer, cell-root, cell-branch, child-cell}
-use Rattle.cache.proofs.Shape.{inside-cell, Pointed, pointed, hangs, root-full, branch-full, branch-short, prefix-slot}
-use Rattle.cache.proofs.Rings.{Chain, without-keep, without-length}
-use Rattle.cache.proofs.Orders.{ring-order, order-ring, in-slot, order-all, order-distinct}
+use Rattle.lru.specs.Slots.{Cache, entryNode, branchNode, cellOf, rootCell}
+use Rattle.lru.specs.Sound.{prefixAt, hopAt, pointer, childAt, cellAt, trie, Slot, Live, along, Ring, SoundCache, order}
+use Rattle.lru.specs.Checks.{lengthAt, Hangs, Leads, BranchOk, RootOk, Checked, Walked}
+use Rattle.lru.specs.Results.{without}
+use Rattle.lru.proofs.Nodes.{Node, is-entry, is-branch, node, digit-small, prefix-entry, prefix-branch, hop-entry, child-entry, child-branch, pointer-some, some-pointer, cell-root, cell-branch, child-cell}
+use Rattle.lru.proofs.Shape.{inside-cell, Pointed, pointed, hangs, root-full, branch-full, branch-short, prefix-slot}
+use Rattle.lru.proofs.Rings.{Chain, without-keep, without-length}
+use Rattle.lru.proofs.Orders.{ring-order, order-ring, in-slot, order-all, order-distinct}
 
 -- ---- one side of a branch
 

@@ -13,9 +13,9 @@ use Rattle.prefix.proofs.Order.{⊑-refl, ⊑-cases, take-⊑, take-len}
 use Rattle.prefix.proofs.Tests.{⊑-apart}
 use Rattle.trie.specs.Trie.{Inside, Fits}
 use Rattle.trie.proofs.Descent.{inject, root-least, under}
-use Rattle.cache.specs.Slots.{Cache, entryNode, branchNode, cellOf, rootCell}
-use Rattle.cache.specs.Sound.{prefixAt, childAt, cellAt, trie, Slot, Live, InUse, SoundCache}
-use Rattle.cache.proofs.Nodes.{Node, is-entry, is-branch, node, prefix-entry, prefix-branch, hop-branch, child-entry, child-branch, pointer-some, some-pointer, cell-root, cell-suc, child-cell, cell-inj}
+use Rattle.lru.specs.Slots.{Cache, entryNode, branchNode, cellOf, rootCell}
+use Rattle.lru.specs.Sound.{prefixAt, childAt, cellAt, trie, Slot, Live, InUse, SoundCache}
+use Rattle.lru.proofs.Nodes.{Node, is-entry, is-branch, node, prefix-entry, prefix-branch, hop-branch, child-entry, child-branch, pointer-some, some-pointer, cell-root, cell-suc, child-cell, cell-inj}
 
 -- ---- cells in use
 

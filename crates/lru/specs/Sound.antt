@@ -10,7 +10,7 @@ use lib.ListN.{take}
 use Rattle.prefix.specs.Bits.{Bits, one?}
 use Rattle.model.specs.Model.{Entry}
 use Rattle.trie.specs.Trie.{Cell, Root, Kid, Trie, Sound, Branchy}
-use Rattle.cache.specs.Slots.{Cache, branchNode, cellOf, rootCell}
+use Rattle.lru.specs.Slots.{Cache, branchNode, cellOf, rootCell}
 
 -- ---- the trie of the slots
 

@@ -6,14 +6,14 @@ use Prim.Native.Nat.{ℕ, _/_, _≤_}
 use native.Mathlib.Omega.{arith}
 use lib.ListN.{take}
 use Rattle.trie.proofs.Moving.{Agrees, agrees-sound, agrees-branchy}
-use Rattle.cache.specs.Slots.{Cache}
-use Rattle.cache.specs.Sound.{prefixAt, cellAt, trie, Live, SoundCache, entryOf, order, entries}
-use Rattle.cache.specs.Results.{Agree}
-use Rattle.cache.proofs.Nodes.{Node, is-entry, is-branch, node, prefix-entry, prefix-branch, hop-same, child-same}
-use Rattle.cache.proofs.Shape.{cell-inside}
-use Rattle.cache.proofs.Rings.{chain-ext}
-use Rattle.cache.proofs.Orders.{Order, ring-order, order-ring, in-slot}
-use Rattle.cache.proofs.Using.{entry-path, map-same, entries-of}
+use Rattle.lru.specs.Slots.{Cache}
+use Rattle.lru.specs.Sound.{prefixAt, cellAt, trie, Live, SoundCache, entryOf, order, entries}
+use Rattle.lru.specs.Results.{Agree}
+use Rattle.lru.proofs.Nodes.{Node, is-entry, is-branch, node, prefix-entry, prefix-branch, hop-same, child-same}
+use Rattle.lru.proofs.Shape.{cell-inside}
+use Rattle.lru.proofs.Rings.{chain-ext}
+use Rattle.lru.proofs.Orders.{Order, ring-order, order-ring, in-slot}
+use Rattle.lru.proofs.Using.{entry-path, map-same, entries-of}
 
 module _ {n : ℕ} {c w : Cache} (A : Agree n c w) (S : SoundCache n c) where
   prefix : (x : ℕ) → Live n x → prefixAt w x ≡ prefixAt c x

@@ -6,8 +6,8 @@ use native.Mathlib.Decide.{ℕ-discrete}
 use Rattle.prefix.specs.Bits.{Bits}
 use Rattle.trie.specs.Updates.{upd}
 use Rattle.trie.proofs.Stores.{upd-same, upd-other}
-use Rattle.cache.specs.Slots.{Cache, entryNode, branchNode, cellOf, rootCell, setEntry, setBranchLength, setChild, setUp, setPrev, setNext}
-use Rattle.cache.specs.Changes.{unlink, pushFront, moveLinks, insertFirst, hang, removeOnly, prune, moveEntry, moveBranch}
+use Rattle.lru.specs.Slots.{Cache, entryNode, branchNode, cellOf, rootCell, setEntry, setBranchLength, setChild, setUp, setPrev, setNext}
+use Rattle.lru.specs.Changes.{unlink, pushFront, moveLinks, insertFirst, hang, removeOnly, prune, moveEntry, moveBranch}
 
 -- two caches with the same values
 pub cache-path : {c w : Cache} → ((i : ℕ) → w .entry i ≡ c .entry i) → ((i : ℕ) → w .hop i ≡ c .hop i) → ((i : ℕ) → w .branchLength i ≡ c .branchLength i)

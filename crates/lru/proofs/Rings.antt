@@ -9,9 +9,9 @@ use Rattle.trie.specs.Updates.{upd}
 use Rattle.trie.proofs.Stores.{upd-same, upd-other}
 use Rattle.trie.proofs.Moving.{ren, ren-s, ren-other}
 use Rattle.trie.proofs.Pigeonhole.{Distinct}
-use Rattle.cache.specs.Slots.{Cache, setPrev, setNext}
-use Rattle.cache.specs.Changes.{unlink, pushFront, moveLinks}
-use Rattle.cache.specs.Results.{without}
+use Rattle.lru.specs.Slots.{Cache, setPrev, setNext}
+use Rattle.lru.specs.Changes.{unlink, pushFront, moveLinks}
+use Rattle.lru.specs.Results.{without}
 
 -- from slot a `next` leads through l to z, and `prev` back
 abbrev pub Chain : Cache → ℕ → List ℕ → ℕ → Type 0

@@ -6,8 +6,8 @@ use Prim.Native.Nat.{ℕ, suc, _/_, _%_, _≤_, _<_}
 use lib.ListN.{length, getD}
 use Rattle.prefix.specs.Bits.{one?}
 use Rattle.prefix.specs.Prefix.{common}
-use Rattle.cache.specs.Slots.{Cache, entryNode, branchNode, cellOf, rootCell}
-use Rattle.cache.specs.Sound.{Slot, Live, InUse, along, Ring}
+use Rattle.lru.specs.Slots.{Cache, entryNode, branchNode, cellOf, rootCell}
+use Rattle.lru.specs.Sound.{Slot, Live, InUse, along, Ring}
 
 -- the length of a node's prefix
 unfoldable pub lengthAt : Cache → ℕ → ℕ

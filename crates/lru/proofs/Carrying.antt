@@ -14,13 +14,13 @@ use Rattle.model.specs.Lists.{_∈_, largest, p-cons}
 use Rattle.model.specs.Model.{Entry}
 use Rattle.model.specs.Demands.{NoOverlap}
 use Rattle.model.proofs.ListLaws.{le-largest}
-use Rattle.cache.specs.Slots.{Cache}
-use Rattle.cache.specs.Sound.{Slot, SoundCache, entryOf, stretch, order, entries}
-use Rattle.cache.specs.Changes.{insertFirst}
-use Rattle.cache.specs.Results.{Short, Free, Inserted, Carried}
-use Rattle.cache.proofs.Inserting.{insert-found, insert-first}
-use Rattle.cache.proofs.Removing.{empty-sound}
-use Rattle.cache.proofs.Holding.{slot-entry}
+use Rattle.lru.specs.Slots.{Cache}
+use Rattle.lru.specs.Sound.{Slot, SoundCache, entryOf, stretch, order, entries}
+use Rattle.lru.specs.Changes.{insertFirst}
+use Rattle.lru.specs.Results.{Short, Free, Inserted, Carried}
+use Rattle.lru.proofs.Inserting.{insert-found, insert-first}
+use Rattle.lru.proofs.Removing.{empty-sound}
+use Rattle.lru.proofs.Holding.{slot-entry}
 
 -- one more entry in front
 more : (E : Entry) (es : List Entry) → ((D : Entry) → D ∈ es → overlap (E .prefix) (D .prefix) ≡ false) → Carried es → Carried (E ∷ es)

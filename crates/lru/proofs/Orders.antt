@@ -8,11 +8,11 @@ use native.Mathlib.Omega.{arith}
 use lib.ListN.{length, length-map}
 use Rattle.trie.proofs.Moving.{ren, ren-s, ren-other}
 use Rattle.trie.proofs.Pigeonhole.{Distinct, all-there}
-use Rattle.cache.specs.Slots.{Cache}
-use Rattle.cache.specs.Sound.{Slot, along, Ring, stretch, order}
-use Rattle.cache.specs.Changes.{unlink, pushFront, toFront, moveLinks}
-use Rattle.cache.specs.Results.{without}
-use Rattle.cache.proofs.Rings.{Chain, Loop, mem-ne, pred-in, succ-in, back-forth, forth-back, loop-same, loop-distinct, without-sub, without-gone, without-length, unlink-loop, push-loop, move-loop}
+use Rattle.lru.specs.Slots.{Cache}
+use Rattle.lru.specs.Sound.{Slot, along, Ring, stretch, order}
+use Rattle.lru.specs.Changes.{unlink, pushFront, toFront, moveLinks}
+use Rattle.lru.specs.Results.{without}
+use Rattle.lru.proofs.Rings.{Chain, Loop, mem-ne, pred-in, succ-in, back-forth, forth-back, loop-same, loop-distinct, without-sub, without-gone, without-length, unlink-loop, push-loop, move-loop}
 
 -- l is the order of use of n entries
 pub record Order (n : ℕ) (c : Cache) (l : List ℕ) : Type 0 where
