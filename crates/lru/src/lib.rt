@@ -1,1 +1,1 @@
-// Theory only, for now: specs/ says what a sound cache is and what each change makes of its slots, and proofs/ what follows.
+// Theory only: specs/ says what a sound cache of slots is and what each change makes of it, and proofs/ what follows.

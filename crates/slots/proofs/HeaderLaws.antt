@@ -1,0 +1,31 @@
+-- What the header's tests tell. Assumes nothing.
+use mathlib.Core.Path.{_≡_, refl, sym, _∙_}
+use mathlib.Core.List.{List}
+use mathlib.Core.Logic.{_⊎_, inl, inr}
+use Prim.Native.Nat.{ℕ, _≤_}
+use native.Mathlib.Omega.{arith}
+use lib.ListN.{length}
+use Rattle.sizes.specs.Sizes.{LegalLimit, cacheNeed, setupFor}
+use Rattle.sizes.specs.declared.Setup.{Setup}
+use Rattle.sizes.specs.declared.Setup.the-variants.{Done}
+use Rattle.sizes.proofs.SizeLaws.{setup-done, enough-store}
+use Rattle.slots.specs.Layout.{limitOf, entriesHeld, Shaped}
+
+-- an answer by a key of the two refusals is not set-up's first
+pub no-key : ¬ ((_≡_ {A = ℕ} 0 1) ⊎ (_≡_ {A = ℕ} 0 2))
+no-key (inl e) = omega arith
+no-key (inr e) = omega arith
+
+module _ (words limit : ℕ) (r : Setup) (answer : r ≡ setupFor cacheNeed words limit) (done : r ≡ Done) where
+  accepted : LegalLimit limit × (cacheNeed limit ≤ words)
+  accepted = setup-done cacheNeed words limit (sym answer ∙ done)
+
+  pub header-word : (i : ℕ) → i ≤ 1024 → i ≤ words
+  header-word i h = omega (arith, accepted)
+
+module _ (w : List ℕ) (r : Setup) (answer : r ≡ setupFor cacheNeed (length w) (limitOf w)) where
+  pub broken : ¬ (r ≡ Done) → ¬ (Shaped w)
+  broken n s = n (answer ∙ sym (enough-store cacheNeed (length w) (limitOf w) (λ z. omega arith) (s .legal .1) (s .enough)))
+
+  pub shaped : r ≡ Done → entriesHeld w ≤ limitOf w → Shaped w
+  shaped d n = let h = accepted (length w) (limitOf w) r answer d in record { legal = h .0; enough = h .1; entries-fit = n }
