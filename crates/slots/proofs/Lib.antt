@@ -1,2 +1,4 @@
 pub mod HeaderLaws
 pub mod Ups
+pub mod Columns
+pub mod StoreLaws

@@ -1,13 +1,13 @@
 -- What each store leaves of the words. Assumes nothing.
 use mathlib.Core.Bool.{cond}
 use mathlib.Core.List.{List}
-use Prim.Native.Nat.{ℕ, _+_, _/_, _%_}
+use Prim.Native.Nat.{ℕ, _/_, _%_}
 use lib.ListN.{set}
 use Rattle.prefix.specs.Bits.{one?}
 use Rattle.slots.specs.Layout.{slotWord, cellWord, word, packed}
 
 unfoldable pub putEntry : List ℕ → ℕ → ℕ → ℕ → ℕ → List ℕ
-putEntry w i address length hop = set (set w (slotWord i 0) address) (slotWord i 0 + 1) (packed hop length)
+putEntry w i address length hop = set (set w (slotWord i 0) address) (slotWord i 1) (packed hop length)
 
 unfoldable pub putHop : List ℕ → ℕ → ℕ → List ℕ
 putHop w i hop = set w (slotWord i 1) (packed hop (word w (slotWord i 1) % 64))
