@@ -1,15 +1,16 @@
 -- Each store to the words as a change of the cache's slots. Assumes nothing.
-use mathlib.Core.Path.{_≡_, refl, sym, ap, ap₂, _∙_}
+use mathlib.Core.Path.{_≡_, refl, sym, ap, ap₂, _∙_, fun-ext}
 use mathlib.Core.List.{List}
-use Prim.Native.Nat.{ℕ, zero, suc, _+_, _*_, _/_, _%_, _<_}
+use Prim.Native.Nat.{ℕ, _/_, _%_, _<_}
 use native.Mathlib.Decide.{ℕ-discrete}
 use native.Mathlib.Omega.{arith}
 use lib.ListN.{set, length-set}
+use lib.Seq.{getD-set-other}
 use Rattle.prefix.specs.Prefix.{prefixOf}
 use Rattle.trie.proofs.Insertions.{upd, upd-same, upd-other}
 use Rattle.cache.specs.Slots.{Cache, branchNode, setEntry, setHop, setBranch, setChild, setUp, setPrev, setNext}
 use Rattle.slots.specs.Layout.{slotWord, cellWord, word, packed, Room, cacheOf}
-use Rattle.slots.specs.Stores.{putEntry, putHop, putPrev, putNext, putChild, putBranch, putUp}
+use Rattle.slots.specs.Stores.{putEntry, putHop, putPrev, putNext, putChild, putBranch, putUp, putCount}
 use Rattle.slots.proofs.Columns.{updated, updated-same, columns, columns-set, stored, both, both-even, both-odd, cacheBy, by-columns, stores}
 use Rattle.slots.proofs.Ups.{put-up-entry, put-up-branch}
 
@@ -96,3 +97,16 @@ cache-up w x cell room = go (ℕ-discrete (x % 2) 0)
         let m = cacheOf w .branch (x / 2) in
         let odd : branchNode (x / 2) ≡ x = omega arith in
         ap cacheOf (sym (put-up-branch w x cell m (putBranch w (x / 2) cell m) n refl refl)) ∙ cache-branch w (x / 2) cell m (omega arith) room ∙ ap₂ (λ (c : Cache) (y : ℕ). setUp c y cell) (set-branch-same (cacheOf w) (x / 2)) odd
+
+-- ---- the header
+
+pub cache-header : (w : List ℕ) (a v : ℕ) → a < 1016 → cacheOf (set w a v) ≡ cacheOf w
+unfolding columns
+cache-header w a v h =
+    by-columns (set w a v)
+    ∙ ap cacheBy (fun-ext (λ f. fun-ext (λ i. getD-set-other w a (slotWord i (f % 8)) v 0 (λ e. omega arith))))
+    ∙ sym (by-columns w)
+
+pub cache-count : (w : List ℕ) (n : ℕ) → cacheOf (putCount w n) ≡ cacheOf w
+unfolding putCount
+cache-count w n = cache-header w 1 n (omega arith)

@@ -4,7 +4,6 @@ use mathlib.Core.Path.{_≡_, refl}
 use mathlib.Core.Bool.{true}
 use mathlib.Core.List.{List}
 use Prim.Native.Nat.{ℕ, zero, suc, _/_, _%_}
-use native.Mathlib.Omega.{arith}
 use lib.ListN.{set}
 use Rattle.prefix.specs.Bits.{one?}
 use Rattle.slots.specs.Layout.{slotWord, word, upIn}

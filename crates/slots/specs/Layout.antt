@@ -4,7 +4,7 @@
 -- place for a node number: cell 2 i + b is the side b of slot i's branch. Assumes nothing.
 use mathlib.Core.Bool.{cond}
 use mathlib.Core.List.{List}
-use Prim.Native.Nat.{ℕ, _+_, _*_, _/_, _%_, _≤_}
+use Prim.Native.Nat.{ℕ, _+_, _*_, _/_, _%_, _≤_, _<_}
 use lib.ListN.{length, getD}
 use Rattle.prefix.specs.Bits.{one?}
 use Rattle.prefix.specs.Prefix.{prefixOf}
@@ -58,3 +58,9 @@ pub record Shaped (w : List ℕ) : Type 0 where
 -- the words of slot i are in the store
 abbrev pub Room : List ℕ → ℕ → Type 0
 Room w i = 1016 + 8 * i + 8 ≤ length w
+
+-- ---- what the slots' values do not show
+
+-- in the slots of n entries no prefix is longer than its address
+pub record Plain (w : List ℕ) (n : ℕ) : Type 0 where
+  pub short : (i : ℕ) → 0 < i → i ≤ n → word w (slotWord i 1) % 64 ≤ 32

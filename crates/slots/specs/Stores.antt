@@ -1,10 +1,12 @@
 -- What each store leaves of the words. Assumes nothing.
+use mathlib.Core.Path.{_≡_}
 use mathlib.Core.Bool.{cond}
 use mathlib.Core.List.{List}
 use Prim.Native.Nat.{ℕ, _/_, _%_}
-use lib.ListN.{set}
+use lib.ListN.{length, set, drop}
 use Rattle.prefix.specs.Bits.{one?}
-use Rattle.slots.specs.Layout.{slotWord, cellWord, word, packed}
+use Rattle.sizes.specs.Sizes.{cacheNeed}
+use Rattle.slots.specs.Layout.{slotWord, cellWord, word, limitOf, entriesHeld, packed, Plain}
 
 unfoldable pub putEntry : List ℕ → ℕ → ℕ → ℕ → ℕ → List ℕ
 putEntry w i address length hop = set (set w (slotWord i 0) address) (slotWord i 1) (packed hop length)
@@ -35,3 +37,13 @@ putCount w n = set w 1 n
 -- an empty cache: no entry, no root, and the order of use leads from slot 0 to slot 0
 unfoldable pub emptied : List ℕ → ℕ → List ℕ
 emptied w limit = set (set (set (set (set w 0 limit) 1 0) (cellWord 0) 0) (slotWord 0 2) 0) (slotWord 0 3) 0
+
+-- ---- what they do not touch
+
+-- stores to the slots from 0 to n leave the header and all that stands past slot n, and store no prefix that is too long
+pub record Kept (n : ℕ) (w w′ : List ℕ) : Type 0 where
+  pub size : length w′ ≡ length w
+  pub limit : limitOf w′ ≡ limitOf w
+  pub entries : entriesHeld w′ ≡ entriesHeld w
+  pub past : drop (cacheNeed n) w′ ≡ drop (cacheNeed n) w
+  pub plain : (m : ℕ) → Plain w m → Plain w′ m
