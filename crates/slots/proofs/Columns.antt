@@ -19,18 +19,23 @@ use Rattle.slots.specs.Layout.{slotWord, cellWord, word, Room, upIn, cac
 
 -- ---- updates
 
-module _ {A : Type 0} (f g : ℕ → A) (k : ℕ) where
-  -- a function that differs from f at k alone is f updated there
-  pub updated : (a : A) → g k ≡ a → ((i : ℕ) → ¬ (i ≡ k) → g i ≡ f i) → g ≡ upd ℕ-discrete f k a
-  updated a here there = fun-ext (λ i. go i (ℕ-discrete i k))
-    where
-      go : (i : ℕ) → Dec (i ≡ k) → g i ≡ upd ℕ-discrete f k a i
-      go i (yes e) = ap g e ∙ here ∙ sym (upd-same ℕ-discrete f k a i e)
-      go i (no n) = there i n ∙ sym (upd-other ℕ-discrete f k a i n)
+-- a function that differs from f at k alone is f updated there
+pub updated : {A : Type 0} (f g : ℕ → A) (k : ℕ) (a : A) → g k ≡ a → ((i : ℕ) → ¬ (i ≡ k) → g i ≡ f i) → g ≡ upd ℕ-discrete f k a
+updated f g k a here there = fun-ext (λ i. go i (ℕ-discrete i k))
+  where
+    go : (i : ℕ) → Dec (i ≡ k) → g i ≡ upd ℕ-discrete f k a i
+    go i (yes e) = ap g e ∙ here ∙ sym (upd-same ℕ-discrete f k a i e)
+    go i (no n) = there i n ∙ sym (upd-other ℕ-discrete f k a i n)
 
--- a function updated to what it is already
+-- f updated to what it is already
 pub updated-same : {A : Type 0} (f : ℕ → A) (k : ℕ) → upd ℕ-discrete f k (f k) ≡ f
 updated-same f k = sym (updated f f k (f k) refl (λ i n. refl))
+
+-- what D makes of each number, where one of them is updated
+pub updated-by : {A : Type 0} (D : ℕ → A) (f : ℕ → ℕ) (k v : ℕ) (a : A) → D v ≡ a
+    → (λ i. D (upd ℕ-discrete f k v i)) ≡ upd ℕ-discrete (λ i. D (f i)) k a
+updated-by D f k v a e =
+    updated _ _ k a (ap D (upd-same ℕ-discrete f k v k refl) ∙ e) (λ i n. ap D (upd-other ℕ-discrete f k v i n))
 
 -- ---- the columns
 
@@ -40,17 +45,21 @@ columns w field i = word w (slotWord i (field % 8))
 unfoldable pub stored : (ℕ → ℕ → ℕ) → ℕ → ℕ → ℕ → ℕ → ℕ → ℕ
 stored m field k v f = cond (eqb (f % 8) field) (upd ℕ-discrete (m f) k v) (m f)
 
-pub columns-set : (w : List ℕ) (k field v : ℕ) → field < 8 → Room w k → columns (set w (slotWord k field) v) ≡ stored (columns w) field k v
-unfolding columns stored
-columns-set w k field v small room = fun-ext (λ f. go f (eqb (f % 8) field) refl)
-  where
-    go : (f : ℕ) (t : Bool) → eqb (f % 8) field ≡ t → (λ i. word (set w (slotWord k field) v) (slotWord i (f % 8))) ≡ cond t (upd ℕ-discrete (λ i. word w (slotWord i (f % 8))) k v) (λ i. word w (slotWord i (f % 8)))
-    go f true e =
-        let z : f % 8 ≡ field = eqb-true (f % 8) field e in
-        updated _ _ k v (rw z (getD-set-same w (slotWord k field) v 0 (omega arith))) (λ i n. getD-set-other w (slotWord k field) (slotWord i (f % 8)) v 0 (λ y. n (omega arith)))
-    go f false e =
-        let z = eqb-false (f % 8) field e in
-        fun-ext (λ i. getD-set-other w (slotWord k field) (slotWord i (f % 8)) v 0 (λ y. z (omega arith)))
+module _ (w : List ℕ) (k field v : ℕ) (small : field < 8) (room : Room w k) where
+  column-set : (f : ℕ) (t : Bool) → eqb (f % 8) field ≡ t
+      → columns (set w (slotWord k field) v) f ≡ cond t (upd ℕ-discrete (columns w f) k v) (columns w f)
+  unfolding columns
+  column-set f true e =
+      let z : f % 8 ≡ field = eqb-true (f % 8) field e in
+      updated _ _ k v (rw z (getD-set-same w (slotWord k field) v 0 (omega arith)))
+      (λ i n. getD-set-other w (slotWord k field) (slotWord i (f % 8)) v 0 (λ y. n (omega arith)))
+  column-set f false e =
+      let z = eqb-false (f % 8) field e in
+      fun-ext (λ i. getD-set-other w (slotWord k field) (slotWord i (f % 8)) v 0 (λ y. z (omega arith)))
+
+  pub columns-set : columns (set w (slotWord k field) v) ≡ stored (columns w) field k v
+  unfolding stored
+  columns-set = fun-ext (λ f. column-set f (eqb (f % 8) field) refl)
 
 -- ---- the cache's slots
 
@@ -90,7 +99,8 @@ module _ (even odd : ℕ → ℕ) (k x v : ℕ) where
       let p : x % 2 ≡ 0 = omega arith in
       updated _ _ x v (rw p (upd-same ℕ-discrete even k v (x / 2) (omega arith))) (λ y n. go y (y % 2) refl n)
     where
-      go : (y d : ℕ) → y % 2 ≡ d → ¬ (y ≡ x) → cond (one? d) (odd (y / 2)) (upd ℕ-discrete even k v (y / 2)) ≡ cond (one? d) (odd (y / 2)) (even (y / 2))
+      go : (y d : ℕ) → y % 2 ≡ d → ¬ (y ≡ x)
+          → cond (one? d) (odd (y / 2)) (upd ℕ-discrete even k v (y / 2)) ≡ cond (one? d) (odd (y / 2)) (even (y / 2))
       go y zero z n = upd-other ℕ-discrete even k v (y / 2) (λ t. n (omega arith))
       go y (suc d) z n = refl
 
@@ -100,10 +110,13 @@ module _ (even odd : ℕ → ℕ) (k x v : ℕ) where
       let p : x % 2 ≡ 1 = omega arith in
       updated _ _ x v (rw p (upd-same ℕ-discrete odd k v (x / 2) (omega arith))) (λ y n. go y (y % 2) refl n)
     where
-      go : (y d : ℕ) → y % 2 ≡ d → ¬ (y ≡ x) → cond (one? d) (upd ℕ-discrete odd k v (y / 2)) (even (y / 2)) ≡ cond (one? d) (odd (y / 2)) (even (y / 2))
+      go : (y d : ℕ) → y % 2 ≡ d → ¬ (y ≡ x)
+          → cond (one? d) (upd ℕ-discrete odd k v (y / 2)) (even (y / 2)) ≡ cond (one? d) (odd (y / 2)) (even (y / 2))
       go y zero z n = refl
       go y (suc d) z n = upd-other ℕ-discrete odd k v (y / 2) (λ t. n (omega arith))
 
 -- a store to a word of slot k that changes the slots as F does
-pub stores : (w : List ℕ) (k field v : ℕ) (F : Cache → Cache) → field < 8 → Room w k → cacheBy (stored (columns w) field k v) ≡ F (cacheBy (columns w)) → cacheOf (set w (slotWord k field) v) ≡ F (cacheOf w)
-stores w k field v F small room e = by-columns (set w (slotWord k field) v) ∙ ap cacheBy (columns-set w k field v small room) ∙ e ∙ ap F (sym (by-columns w))
+pub stores : (w : List ℕ) (k field v : ℕ) (F : Cache → Cache) → field < 8 → Room w k
+    → cacheBy (stored (columns w) field k v) ≡ F (cacheBy (columns w)) → cacheOf (set w (slotWord k field) v) ≡ F (cacheOf w)
+stores w k field v F small room e =
+    by-columns (set w (slotWord k field) v) ∙ ap cacheBy (columns-set w k field v small room) ∙ e ∙ ap F (sym (by-columns w))

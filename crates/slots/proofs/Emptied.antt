@@ -92,10 +92,19 @@ module _ (w : List ℕ) (limit : ℕ) (room : Room w 0) where
   unfolding emptied putChild putPrev putNext
   cache-emptied =
       cache-next (putPrev (putChild (headed w limit) rootCell 0) 0 0) 0 0 room-prev
-      ∙ rw (cache-prev (putChild (headed w limit) rootCell 0) 0 0 room-child, cache-child (headed w limit) rootCell 0 room-headed, cache-header (set w 0 limit) 1 0 (omega arith), cache-header w 0 limit (omega arith))
+      ∙ rw (
+        cache-prev (putChild (headed w limit) rootCell 0) 0 0 room-child,
+        cache-child (headed w limit) rootCell 0 room-headed,
+        cache-header (set w 0 limit) 1 0 (omega arith),
+        cache-header w 0 limit (omega arith),
+      )
 
   pub emptied-shaped : LegalLimit limit → cacheNeed limit ≤ length w → Shaped (emptied w limit)
-  emptied-shaped legal enough = record { legal = rw emptied-limit legal; enough = rw (emptied-limit, emptied-size) enough; entries-fit = rw (emptied-entries, emptied-limit) (omega arith) }
+  emptied-shaped legal enough = record {
+    legal = rw emptied-limit legal;
+    enough = rw (emptied-limit, emptied-size) enough;
+    entries-fit = rw (emptied-entries, emptied-limit) (omega arith);
+  }
 
   pub emptied-root : cacheOf (emptied w limit) .child rootCell ≡ 0
   unfolding setChild setPrev setNext

@@ -20,7 +20,8 @@ pub plain-none : (w : List ℕ) → Plain w 0
 plain-none w = record { short = λ i pos le. absurd (omega arith) }
 
 -- a word stored at any index: to the second word of a slot, a short length, or the one that stood there
-plain-set : (w : List ℕ) (a v m : ℕ) → a < length w → ((i : ℕ) → a ≡ slotWord i 1 → word w a % 64 ≤ 32 → v % 64 ≤ 32) → Plain w m → Plain (set w a v) m
+plain-set : (w : List ℕ) (a v m : ℕ) → a < length w
+    → ((i : ℕ) → a ≡ slotWord i 1 → word w a % 64 ≤ 32 → v % 64 ≤ 32) → Plain w m → Plain (set w a v) m
 plain-set w a v m inside keeps p = record { short = λ i pos le. go i (p .short i pos le) (ℕ-discrete (slotWord i 1) a) }
   where
     go : (i : ℕ) → word w (slotWord i 1) % 64 ≤ 32 → Dec (slotWord i 1 ≡ a) → word (set w a v) (slotWord i 1) % 64 ≤ 32
@@ -42,7 +43,8 @@ pub kept-same : (n : ℕ) (w : List ℕ) → Kept n w w
 kept-same n w = record { size = refl; limit = refl; entries = refl; past = refl; plain = λ m p. p }
 
 module _ (n : ℕ) (w : List ℕ) (k : ℕ) (within : k ≤ n) (room : Room w k) where
-  kept-set : (field v : ℕ) → field < 8 → (field ≡ 1 → word w (slotWord k field) % 64 ≤ 32 → v % 64 ≤ 32) → Kept n w (set w (slotWord k field) v)
+  kept-set : (field v : ℕ) → field < 8
+      → (field ≡ 1 → word w (slotWord k field) % 64 ≤ 32 → v % 64 ≤ 32) → Kept n w (set w (slotWord k field) v)
   kept-set field v small keeps = record {
     size = length-set w (slotWord k field) v;
     limit = getD-set-other w (slotWord k field) 0 v 0 (λ e. omega arith);
@@ -67,7 +69,8 @@ module _ (n : ℕ) (w : List ℕ) (k : ℕ) (within : k ≤ n) (room : Room w k)
   unfolding putBranch
   kept-branch cell m = kept-set 7 (packed cell m) (omega arith) (λ e. absurd (omega arith))
 
-pub kept-entry : (n : ℕ) (w : List ℕ) (i : ℕ) → i ≤ n → Room w i → (address length hop : ℕ) → length ≤ 32 → Kept n w (putEntry w i address length hop)
+pub kept-entry : (n : ℕ) (w : List ℕ) (i : ℕ) → i ≤ n → Room w i → (address length hop : ℕ) → length ≤ 32
+    → Kept n w (putEntry w i address length hop)
 unfolding putEntry
 kept-entry n w i within room address length hop h =
     kept-then (kept-set n w i within room 0 address (omega arith) (λ e. absurd (omega arith)))
@@ -87,7 +90,8 @@ kept-up n w x within room cell = go (ℕ-discrete (x % 2) 0)
     go (no odd) = rw (sym (put-up-branch w x cell _ _ odd refl refl)) (kept-branch n w (x / 2) within room cell _)
 
 -- the entry of a further slot
-pub plain-entry : {w : List ℕ} {n : ℕ} (i address length hop : ℕ) → i ≤ n + 1 → length ≤ 32 → Room w i → Plain w n → Plain (putEntry w i address length hop) i
+pub plain-entry : {w : List ℕ} {n : ℕ} (i address length hop : ℕ) → i ≤ n + 1 → length ≤ 32 → Room w i → Plain w n
+    → Plain (putEntry w i address length hop) i
 unfolding putEntry
 plain-entry {w} {n} i address length hop next short room p = record { short = λ j pos le. go j pos le (ℕ-discrete j i) }
   where

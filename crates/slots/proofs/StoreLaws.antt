@@ -9,10 +9,17 @@ use lib.Seq.{getD-set-other}
 use Rattle.prefix.specs.Prefix.{prefixOf}
 use Rattle.trie.proofs.Insertions.{upd, upd-same, upd-other}
 use Rattle.cache.specs.Slots.{Cache, branchNode, setEntry, setHop, setBranch, setChild, setUp, setPrev, setNext}
-use Rattle.slots.specs.Layout.{slotWord, cellWord, word, packed, Room, cacheOf}
+use Rattle.slots.specs.Layout.{slotWord, cellWord, packed, Room, cacheOf}
 use Rattle.slots.specs.Stores.{putEntry, putHop, putPrev, putNext, putChild, putBranch, putUp, putCount}
-use Rattle.slots.proofs.Columns.{updated, updated-same, columns, columns-set, stored, both, both-even, both-odd, cacheBy, by-columns, stores}
+use Rattle.slots.proofs.Columns.{updated, updated-same, updated-by, columns, columns-set, stored, both, both-even, both-odd, cacheBy, by-columns, stores}
 use Rattle.slots.proofs.Ups.{put-up-entry, put-up-branch}
+
+-- equal by each value
+cache-path : {c d : Cache} → c .entry ≡ d .entry → c .hop ≡ d .hop → c .branch ≡ d .branch → c .child ≡ d .child → c .up ≡ d .up
+    → c .prev ≡ d .prev → c .next ≡ d .next → c ≡ d
+cache-path e h b k u p n = λ t. record { entry = e t; hop = h t; branch = b t; child = k t; up = u t; prev = p t; next = n t }
+
+-- ---- the order of use
 
 pub cache-prev : (w : List ℕ) (i s : ℕ) → Room w i → cacheOf (putPrev w i s) ≡ setPrev (cacheOf w) i s
 unfolding putPrev setPrev cacheBy stored
@@ -22,45 +29,51 @@ pub cache-next : (w : List ℕ) (i s : ℕ) → Room w i → cacheOf (putNext w 
 unfolding putNext setNext cacheBy stored
 cache-next w i s room = stores w i 3 s (λ c. setNext c i s) (omega arith) room refl
 
--- a word that packs two numbers, of which an update changes the first alone, or both
-module _ (f : ℕ → ℕ) (k n : ℕ) where
-  first : (m : ℕ) → m < 64 → (λ i. upd ℕ-discrete f k (packed n m) i / 64) ≡ upd ℕ-discrete (λ i. f i / 64) k n
-  first m h = updated _ _ k n (rw (upd-same ℕ-discrete f k (packed n m) k refl) (omega arith)) (λ i ne. ap (λ (x : ℕ). x / 64) (upd-other ℕ-discrete f k (packed n m) i ne))
+-- ---- the words that pack a length with another number
 
-  second : (m : ℕ) → m < 64 → (λ i. upd ℕ-discrete f k (packed n m) i % 64) ≡ upd ℕ-discrete (λ i. f i % 64) k m
-  second m h = updated _ _ k m (rw (upd-same ℕ-discrete f k (packed n m) k refl) (omega arith)) (λ i ne. ap (λ (x : ℕ). x % 64) (upd-other ℕ-discrete f k (packed n m) i ne))
+-- a column of such words, where one of them is stored
+module _ (f : ℕ → ℕ) (k n m : ℕ) (short : m < 64) where
+  numbers : (λ i. upd ℕ-discrete f k (packed n m) i / 64) ≡ upd ℕ-discrete (λ i. f i / 64) k n
+  numbers = updated-by (λ x. x / 64) f k (packed n m) n (omega arith)
 
-cache-path : {c d : Cache} → c .entry ≡ d .entry → c .hop ≡ d .hop → c .branch ≡ d .branch → c .child ≡ d .child → c .up ≡ d .up → c .prev ≡ d .prev → c .next ≡ d .next → c ≡ d
-cache-path e h b k u p n = λ t. record { entry = e t; hop = h t; branch = b t; child = k t; up = u t; prev = p t; next = n t }
+  lengths : (λ i. upd ℕ-discrete f k (packed n m) i % 64) ≡ upd ℕ-discrete (λ i. f i % 64) k m
+  lengths = updated-by (λ x. x % 64) f k (packed n m) m (omega arith)
+
+pub cache-entry : (w : List ℕ) (i address length hop : ℕ) → length < 64 → Room w i
+    → cacheOf (putEntry w i address length hop) ≡ setEntry (cacheOf w) i (prefixOf 32 address length) hop
+unfolding putEntry setEntry cacheBy stored
+cache-entry w i address length hop short room =
+    let m = columns w in
+    let v = packed hop length in
+    let w′ = set w (slotWord i 0) address in
+    let both-set : columns (set w′ (slotWord i 1) v) ≡ stored (stored m 0 i address) 1 i v
+    = columns-set w′ i 1 v (omega arith) (simp length-set room) ∙ rw (columns-set w i 0 address (omega arith) room) in
+    let e : v % 64 ≡ length = omega arith in
+    by-columns (set w′ (slotWord i 1) v) ∙ ap cacheBy both-set
+    ∙ cache-path
+    (updated _ _ i (prefixOf 32 address length)
+    (rw (upd-same ℕ-discrete (m 0) i address i refl, upd-same ℕ-discrete (m 1) i v i refl, e))
+    (λ j n. rw (upd-other ℕ-discrete (m 0) i address j n, upd-other ℕ-discrete (m 1) i v j n)))
+    (numbers (m 1) i hop length short) refl refl refl refl refl
+    ∙ ap (λ (c : Cache). setEntry c i (prefixOf 32 address length) hop) (sym (by-columns w))
 
 pub cache-hop : (w : List ℕ) (i hop : ℕ) → Room w i → cacheOf (putHop w i hop) ≡ setHop (cacheOf w) i hop
 unfolding putHop setHop cacheBy stored columns
 cache-hop w i hop room =
-    let kept = second (columns w 1) i hop (columns w 1 i % 64) (omega arith) ∙ updated-same (λ j. columns w 1 j % 64) i in
-    stores w i 1 (packed hop (word w (slotWord i 1) % 64)) (λ c. setHop c i hop) (omega arith) room
-    (cache-path (λ t j. prefixOf 32 (columns w 0 j) (kept t j)) (first (columns w 1) i hop (columns w 1 i % 64) (omega arith)) refl refl refl refl refl)
-
-pub cache-branch : (w : List ℕ) (i cell m : ℕ) → m < 64 → Room w i → cacheOf (putBranch w i cell m) ≡ setUp (setBranch (cacheOf w) i m) (branchNode i) cell
-unfolding putBranch setUp setBranch cacheBy stored columns
-cache-branch w i cell m h room =
-    stores w i 7 (packed cell m) (λ c. setUp (setBranch c i m) (branchNode i) cell) (omega arith) room
-    (cache-path refl refl (second (columns w 7) i cell m h) refl
-    (ap (both (columns w 4)) (first (columns w 7) i cell m h) ∙ both-odd (columns w 4) (λ j. columns w 7 j / 64) i (branchNode i) cell refl) refl refl)
-
-pub cache-entry : (w : List ℕ) (i address length hop : ℕ) → length < 64 → Room w i → cacheOf (putEntry w i address length hop) ≡ setEntry (cacheOf w) i (prefixOf 32 address length) hop
-unfolding putEntry setEntry cacheBy stored
-cache-entry w i address length hop h room =
     let m = columns w in
-    let v = packed hop length in
-    let w′ = set w (slotWord i 0) address in
-    let words : columns (set w′ (slotWord i 1) v) ≡ stored (stored m 0 i address) 1 i v = columns-set w′ i 1 v (omega arith) (simp length-set room) ∙ rw (columns-set w i 0 address (omega arith) room) in
-    let short : v % 64 ≡ length = omega arith in
-    by-columns (set w′ (slotWord i 1) v) ∙ ap cacheBy words
-    ∙ cache-path
-    (updated _ _ i (prefixOf 32 address length) (rw (upd-same ℕ-discrete (m 0) i address i refl, upd-same ℕ-discrete (m 1) i v i refl, short))
-    (λ j n. rw (upd-other ℕ-discrete (m 0) i address j n, upd-other ℕ-discrete (m 1) i v j n)))
-    (first (m 1) i hop length h) refl refl refl refl refl
-    ∙ ap (λ (c : Cache). setEntry c i (prefixOf 32 address length) hop) (sym (by-columns w))
+    let length = m 1 i % 64 in
+    let kept = lengths (m 1) i hop length (omega arith) ∙ updated-same (λ j. m 1 j % 64) i in
+    stores w i 1 (packed hop length) (λ c. setHop c i hop) (omega arith) room
+    (cache-path (λ t j. prefixOf 32 (m 0 j) (kept t j)) (numbers (m 1) i hop length (omega arith)) refl refl refl refl refl)
+
+pub cache-branch : (w : List ℕ) (i cell m : ℕ) → m < 64 → Room w i
+    → cacheOf (putBranch w i cell m) ≡ setUp (setBranch (cacheOf w) i m) (branchNode i) cell
+unfolding putBranch setUp setBranch cacheBy stored columns
+cache-branch w i cell m short room =
+    let above = numbers (columns w 7) i cell m short in
+    stores w i 7 (packed cell m) (λ c. setUp (setBranch c i m) (branchNode i) cell) (omega arith) room
+    (cache-path refl refl (lengths (columns w 7) i cell m short) refl
+    (ap (both (columns w 4)) above ∙ both-odd (columns w 4) (λ j. columns w 7 j / 64) i (branchNode i) cell refl) refl refl)
 
 -- ---- a cell
 
@@ -75,9 +88,13 @@ unfolding putChild setChild cacheBy stored
 cache-child w cell x room = go (ℕ-discrete (cell % 2) 0)
   where
     go : Dec (cell % 2 ≡ 0) → cacheOf (putChild w cell x) ≡ setChild (cacheOf w) cell x
-    go (yes e) = rw (cell-even cell e) (stores w (cell / 2) 5 x (λ c. setChild c cell x) (omega arith) room
+    go (yes e) =
+        rw (cell-even cell e)
+        (stores w (cell / 2) 5 x (λ c. setChild c cell x) (omega arith) room
         (cache-path refl refl refl (both-even (columns w 5) (columns w 6) (cell / 2) cell x (omega arith)) refl refl refl))
-    go (no n) = rw (cell-odd cell (omega arith)) (stores w (cell / 2) 6 x (λ c. setChild c cell x) (omega arith) room
+    go (no n) =
+        rw (cell-odd cell (omega arith))
+        (stores w (cell / 2) 6 x (λ c. setChild c cell x) (omega arith) room
         (cache-path refl refl refl (both-odd (columns w 5) (columns w 6) (cell / 2) cell x (omega arith)) refl refl refl))
 
 -- ---- the cell above a node
@@ -91,12 +108,16 @@ unfolding setUp cacheBy stored cacheOf
 cache-up w x cell room = go (ℕ-discrete (x % 2) 0)
   where
     go : Dec (x % 2 ≡ 0) → cacheOf (putUp w x cell) ≡ setUp (cacheOf w) x cell
-    go (yes e) = rw (sym (put-up-entry w x cell e)) (stores w (x / 2) 4 cell (λ c. setUp c x cell) (omega arith) room
+    go (yes e) =
+        rw (sym (put-up-entry w x cell e))
+        (stores w (x / 2) 4 cell (λ c. setUp c x cell) (omega arith) room
         (cache-path refl refl refl refl (both-even (columns w 4) (λ j. columns w 7 j / 64) (x / 2) x cell (omega arith)) refl refl))
     go (no n) =
-        let m = cacheOf w .branch (x / 2) in
-        let odd : branchNode (x / 2) ≡ x = omega arith in
-        ap cacheOf (sym (put-up-branch w x cell m (putBranch w (x / 2) cell m) n refl refl)) ∙ cache-branch w (x / 2) cell m (omega arith) room ∙ ap₂ (λ (c : Cache) (y : ℕ). setUp c y cell) (set-branch-same (cacheOf w) (x / 2)) odd
+        let i = x / 2 in
+        let m = cacheOf w .branch i in
+        ap cacheOf (sym (put-up-branch w x cell m (putBranch w i cell m) n refl refl))
+        ∙ cache-branch w i cell m (omega arith) room
+        ∙ ap₂ (λ (c : Cache) (y : ℕ). setUp c y cell) (set-branch-same (cacheOf w) i) (omega arith)
 
 -- ---- the header
 

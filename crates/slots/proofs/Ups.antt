@@ -29,6 +29,7 @@ module _ (w : List ℕ) (x : ℕ) where
   unfolding putUp
   put-up-entry cell e = rw e
 
-  pub put-up-branch : (cell m : ℕ) (w′ : List ℕ) → ¬ (x % 2 ≡ 0) → m ≡ word w (slotWord (x / 2) 7) % 64 → w′ ≡ putBranch w (x / 2) cell m → w′ ≡ putUp w x cell
+  pub put-up-branch : (cell m : ℕ) (w′ : List ℕ) → ¬ (x % 2 ≡ 0) → m ≡ word w (slotWord (x / 2) 7) % 64
+      → w′ ≡ putBranch w (x / 2) cell m → w′ ≡ putUp w x cell
   unfolding putUp
   put-up-branch cell m w′ n em e = rw (odd x n) cc
