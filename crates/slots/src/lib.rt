@@ -13,7 +13,7 @@ use prefix::Address;
 use sizes::Setup;
 ghost use mathlib.Core.Path.{_≡_};
 ghost use Prim.Native.Nat.{_<_, _≤_, _/_, _%_};
-ghost use lib.ListN.{take, length, set};
+ghost use lib.ListN.{take};
 ghost use Rattle.prefix.specs.Bits.{bits};
 ghost use Rattle.prefix.specs.Addresses.{addressBits};
 ghost use Rattle.slots.specs.Layout.{slotWord, cellWord, word, upIn, Room};
