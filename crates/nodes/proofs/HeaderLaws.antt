@@ -1,7 +1,6 @@
 -- What the header's tests tell. Assumes nothing.
 use mathlib.Core.Path.{_≡_, sym, _∙_}
 use mathlib.Core.List.{List}
-use mathlib.Core.Logic.{_⊎_, inl, inr}
 use Prim.Native.Nat.{ℕ, _*_, _≤_}
 use native.Mathlib.Omega.{arith}
 use lib.ListN.{length}
@@ -12,11 +11,6 @@ use Rattle.sizes.specs.declared.Setup.{Setup}
 use Rattle.sizes.specs.declared.Setup.the-variants.{Done}
 use Rattle.sizes.proofs.SizeLaws.{setup-done, enough-store}
 use Rattle.nodes.specs.Layout.{limitOf, nodesOf, routeCount, Shaped}
-
--- the key of an accepted set-up, 0, is neither of the refusals'
-pub no-key : ¬ ((_≡_ {A = ℕ} 0 1) ⊎ (_≡_ {A = ℕ} 0 2))
-no-key (inl e) = omega arith
-no-key (inr e) = omega arith
 
 module _ (words limit : ℕ) (r : Setup) (answer : r ≡ setupFor tableNeed words limit) (done : r ≡ Done) where
   accepted : LegalLimit limit × (tableNeed limit ≤ words)

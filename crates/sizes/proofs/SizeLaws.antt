@@ -1,6 +1,7 @@
 -- One law for each answer of the size calculation and of set-up. Assumes nothing.
 use mathlib.Core.Path.{_≡_, refl}
 use mathlib.Core.Bool.{Bool, true, false, cond, _||_}
+use mathlib.Core.Logic.{_⊎_, inl, inr}
 use Prim.Native.Nat.{ℕ, _-_, _/_, _≤_, _<_}
 use native.Mathlib.Omega.{arith}
 use lib.Dec.{eqb, ltb}
@@ -17,6 +18,11 @@ too-large B l h = rw (le-ltb B 4128 l, lt-ltb 33558559 B h)
 
 pub right-size : (B : ℕ) → 4128 ≤ B → B ≤ 33558559 → Entries ((B - 4096) / 32) ≡ entriesFor B
 right-size B l h = rw (le-ltb B 4128 l, le-ltb 33558559 B h)
+
+-- in code, a set-up that is not Done has the key of one of the refusals
+pub no-key : ¬ ((_≡_ {A = ℕ} 0 1) ⊎ (_≡_ {A = ℕ} 0 2))
+no-key (inl e) = omega arith
+no-key (inr e) = omega arith
 
 positive : (n : ℕ) → (n ≡ 0 → ⊥) → 1 ≤ n
 positive n h = omega arith

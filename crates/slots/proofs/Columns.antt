@@ -13,8 +13,9 @@ use lib.Seq.{getD-set-same, getD-set-other}
 use borrow.Author.Tests.{eqb-true, eqb-false}
 use Rattle.prefix.specs.Bits.{one?}
 use Rattle.prefix.specs.Prefix.{prefixOf}
-use Rattle.trie.proofs.Insertions.{upd, upd-same, upd-other}
-use Rattle.cache.specs.Slots.{Cache}
+use Rattle.trie.specs.Updates.{upd}
+use Rattle.trie.proofs.Stores.{upd-same, upd-other}
+use Rattle.lru.specs.Slots.{Cache}
 use Rattle.slots.specs.Layout.{slotWord, cellWord, word, Room, upIn, cacheOf}
 
 -- ---- updates
@@ -71,7 +72,7 @@ unfoldable pub cacheBy : (ℕ → ℕ → ℕ) → Cache
 cacheBy m = record {
   entry = λ i. prefixOf 32 (m 0 i) (m 1 i % 64);
   hop = λ i. m 1 i / 64;
-  branch = λ i. m 7 i % 64;
+  branchLength = λ i. m 7 i % 64;
   child = both (m 5) (m 6);
   up = both (m 4) (λ i. m 7 i / 64);
   prev = m 2;

@@ -8,10 +8,10 @@ use native.Mathlib.Omega.{arith}
 use lib.ListN.{length, drop, set, length-set}
 use lib.Seq.{getD-set-same, getD-set-other, drop-set-lt}
 use Rattle.trie.specs.Trie.{Cell, Root, Kid, Inside, Points}
-use Rattle.trie.proofs.Insertions.{upd-same}
+use Rattle.trie.proofs.Stores.{upd-same}
 use Rattle.sizes.specs.Sizes.{LegalLimit, cacheNeed}
-use Rattle.cache.specs.Slots.{Cache, rootCell, setChild, setPrev, setNext}
-use Rattle.cache.specs.Sound.{Live, trie, childAt, pointer, along, Ring, SoundCache}
+use Rattle.lru.specs.Slots.{Cache, rootCell, setChild, setPrev, setNext}
+use Rattle.lru.specs.Sound.{Live, trie, childAt, pointer, along, Ring, SoundCache}
 use Rattle.slots.specs.Layout.{limitOf, entriesHeld, Room, Shaped, cacheOf}
 use Rattle.slots.specs.Stores.{putPrev, putNext, putChild, emptied, Kept}
 use Rattle.slots.proofs.KeptLaws.{kept-then, kept-child, kept-prev, kept-next}

@@ -1,7 +1,6 @@
 -- What the header's tests tell. Assumes nothing.
 use mathlib.Core.Path.{_≡_, sym, _∙_}
 use mathlib.Core.List.{List}
-use mathlib.Core.Logic.{_⊎_, inl, inr}
 use Prim.Native.Nat.{ℕ, _≤_}
 use native.Mathlib.Omega.{arith}
 use lib.ListN.{length}
@@ -10,11 +9,6 @@ use Rattle.sizes.specs.declared.Setup.{Setup}
 use Rattle.sizes.specs.declared.Setup.the-variants.{Done}
 use Rattle.sizes.proofs.SizeLaws.{setup-done, enough-store}
 use Rattle.slots.specs.Layout.{limitOf, entriesHeld, Shaped}
-
--- an answer by a key of the two refusals is not set-up's first
-pub no-key : ¬ ((_≡_ {A = ℕ} 0 1) ⊎ (_≡_ {A = ℕ} 0 2))
-no-key (inl e) = omega arith
-no-key (inr e) = omega arith
 
 module _ (words limit : ℕ) (r : Setup) (answer : r ≡ setupFor cacheNeed words limit) (done : r ≡ Done) where
   accepted : LegalLimit limit × (cacheNeed limit ≤ words)

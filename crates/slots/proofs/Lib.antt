@@ -1,4 +1,5 @@
 pub mod HeaderLaws
+pub mod Parts
 pub mod Ups
 pub mod Columns
 pub mod StoreLaws

@@ -26,7 +26,7 @@ module _ (w : List ℕ) (i : ℕ) where
   unfolding cacheOf
   read-child = refl
 
-  pub read-branch : word w (slotWord i 7) % 64 ≡ cacheOf w .branch i
+  pub read-branch : word w (slotWord i 7) % 64 ≡ cacheOf w .branchLength i
   unfolding cacheOf
   read-branch = refl
 

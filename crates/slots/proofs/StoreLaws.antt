@@ -7,17 +7,18 @@ use native.Mathlib.Omega.{arith}
 use lib.ListN.{set, length-set}
 use lib.Seq.{getD-set-other}
 use Rattle.prefix.specs.Prefix.{prefixOf}
-use Rattle.trie.proofs.Insertions.{upd, upd-same, upd-other}
-use Rattle.cache.specs.Slots.{Cache, branchNode, setEntry, setHop, setBranch, setChild, setUp, setPrev, setNext}
+use Rattle.trie.specs.Updates.{upd}
+use Rattle.trie.proofs.Stores.{upd-same, upd-other}
+use Rattle.lru.specs.Slots.{Cache, branchNode, setEntry, setHop, setBranchLength, setChild, setUp, setPrev, setNext}
 use Rattle.slots.specs.Layout.{slotWord, cellWord, packed, Room, cacheOf}
 use Rattle.slots.specs.Stores.{putEntry, putHop, putPrev, putNext, putChild, putBranch, putUp, putCount}
 use Rattle.slots.proofs.Columns.{updated, updated-same, updated-by, columns, columns-set, stored, both, both-even, both-odd, cacheBy, by-columns, stores}
 use Rattle.slots.proofs.Ups.{put-up-entry, put-up-branch}
 
 -- equal by each value
-cache-path : {c d : Cache} → c .entry ≡ d .entry → c .hop ≡ d .hop → c .branch ≡ d .branch → c .child ≡ d .child → c .up ≡ d .up
+cache-path : {c d : Cache} → c .entry ≡ d .entry → c .hop ≡ d .hop → c .branchLength ≡ d .branchLength → c .child ≡ d .child → c .up ≡ d .up
     → c .prev ≡ d .prev → c .next ≡ d .next → c ≡ d
-cache-path e h b k u p n = λ t. record { entry = e t; hop = h t; branch = b t; child = k t; up = u t; prev = p t; next = n t }
+cache-path e h b k u p n = λ t. record { entry = e t; hop = h t; branchLength = b t; child = k t; up = u t; prev = p t; next = n t }
 
 -- ---- the order of use
 
@@ -67,11 +68,11 @@ cache-hop w i hop room =
     (cache-path (λ t j. prefixOf 32 (m 0 j) (kept t j)) (numbers (m 1) i hop length (omega arith)) refl refl refl refl refl)
 
 pub cache-branch : (w : List ℕ) (i cell m : ℕ) → m < 64 → Room w i
-    → cacheOf (putBranch w i cell m) ≡ setUp (setBranch (cacheOf w) i m) (branchNode i) cell
-unfolding putBranch setUp setBranch cacheBy stored columns
+    → cacheOf (putBranch w i cell m) ≡ setUp (setBranchLength (cacheOf w) i m) (branchNode i) cell
+unfolding putBranch setUp setBranchLength cacheBy stored columns
 cache-branch w i cell m short room =
     let above = numbers (columns w 7) i cell m short in
-    stores w i 7 (packed cell m) (λ c. setUp (setBranch c i m) (branchNode i) cell) (omega arith) room
+    stores w i 7 (packed cell m) (λ c. setUp (setBranchLength c i m) (branchNode i) cell) (omega arith) room
     (cache-path refl refl (lengths (columns w 7) i cell m short) refl
     (ap (both (columns w 4)) above ∙ both-odd (columns w 4) (λ j. columns w 7 j / 64) i (branchNode i) cell refl) refl refl)
 
@@ -99,9 +100,9 @@ cache-child w cell x room = go (ℕ-discrete (cell % 2) 0)
 
 -- ---- the cell above a node
 
-set-branch-same : (c : Cache) (i : ℕ) → setBranch c i (c .branch i) ≡ c
-unfolding setBranch
-set-branch-same c i = rw (updated-same (c .branch) i)
+set-branch-same : (c : Cache) (i : ℕ) → setBranchLength c i (c .branchLength i) ≡ c
+unfolding setBranchLength
+set-branch-same c i = rw (updated-same (c .branchLength) i)
 
 pub cache-up : (w : List ℕ) (x cell : ℕ) → Room w (x / 2) → cacheOf (putUp w x cell) ≡ setUp (cacheOf w) x cell
 unfolding setUp cacheBy stored cacheOf
@@ -114,7 +115,7 @@ cache-up w x cell room = go (ℕ-discrete (x % 2) 0)
         (cache-path refl refl refl refl (both-even (columns w 4) (λ j. columns w 7 j / 64) (x / 2) x cell (omega arith)) refl refl))
     go (no n) =
         let i = x / 2 in
-        let m = cacheOf w .branch i in
+        let m = cacheOf w .branchLength i in
         ap cacheOf (sym (put-up-branch w x cell m (putBranch w i cell m) n refl refl))
         ∙ cache-branch w i cell m (omega arith) room
         ∙ ap₂ (λ (c : Cache) (y : ℕ). setUp c y cell) (set-branch-same (cacheOf w) i) (omega arith)

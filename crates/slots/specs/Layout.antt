@@ -8,7 +8,7 @@ use Prim.Native.Nat.{ℕ, _+_, _*_, _/_, _%_, _≤_, _<_}
 use lib.ListN.{length, getD}
 use Rattle.prefix.specs.Bits.{one?}
 use Rattle.prefix.specs.Prefix.{prefixOf}
-use Rattle.cache.specs.Slots.{Cache}
+use Rattle.lru.specs.Slots.{Cache}
 use Rattle.sizes.specs.Sizes.{LegalLimit, cacheNeed}
 
 -- ---- where a word is
@@ -41,7 +41,7 @@ unfoldable pub cacheOf : List ℕ → Cache
 cacheOf w = record {
   entry = λ i. prefixOf 32 (word w (slotWord i 0)) (word w (slotWord i 1) % 64);
   hop = λ i. word w (slotWord i 1) / 64;
-  branch = λ i. word w (slotWord i 7) % 64;
+  branchLength = λ i. word w (slotWord i 7) % 64;
   child = λ q. word w (cellWord q);
   up = upIn w;
   prev = λ i. word w (slotWord i 2);

@@ -12,8 +12,8 @@
 use prefix::Address;
 use sizes::Setup;
 ghost use mathlib.Core.Path.{_≡_};
-ghost use Prim.Native.Nat.{_<_, _≤_, _/_, _%_};
-ghost use lib.ListN.{take};
+ghost use Prim.Native.Nat.{_<_, _/_, _%_};
+ghost use lib.ListN.{take, length, set};
 ghost use Rattle.prefix.specs.Bits.{bits};
 ghost use Rattle.prefix.specs.Addresses.{addressBits};
 ghost use Rattle.slots.specs.Layout.{slotWord, cellWord, word, upIn, Room};
@@ -145,19 +145,27 @@ pub fn up_of(store: &[u32], x: u32) -> u32
 
 // ---- stores
 
+// The entry's two words of a slot, which is lent as a part of the store.
+fn fill(slot: &mut [u32], address: u32, packed: u32)
+    requires { ⌜ length (now slot) ≡ 8 ⌝ }
+    ensures { λ _. ⌜ now (slot .exit) ≡ set (set (now (slot .entry)) 0 address) 1 packed ⌝ }
+{
+    slot[0] = address;
+    slot[1] = packed;
+}
+
 pub fn set_entry(store: &mut [u32], i: u32, address: u32, length: u32, hop: u32)
     requires { ⌜ Room (now store) i ⌝ }
-    requires { ⌜ (length < 64) × (hop ≤ 65535) ⌝ }
+    requires { ⌜ (length < 64) × (hop < 67108864) ⌝ }
     ensures { λ _. ⌜ now (store .exit) ≡ putEntry (now (store .entry)) i address length hop ⌝ }
 {
     let start = SLOTS + 8 * (i as usize);
-    store[start] = address;
-    store[start + 1] = hop * 64 + length;
+    fill(&mut store[start..start + 8], address, hop * 64 + length);
 }
 
 pub fn set_hop(store: &mut [u32], i: u32, hop: u32)
     requires { ⌜ Room (now store) i ⌝ }
-    requires { ⌜ hop ≤ 65535 ⌝ }
+    requires { ⌜ hop < 67108864 ⌝ }
     ensures { λ _. ⌜ now (store .exit) ≡ putHop (now (store .entry)) i hop ⌝ }
 {
     let at = SLOTS + 8 * (i as usize) + 1;

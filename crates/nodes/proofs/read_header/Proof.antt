@@ -1,6 +1,7 @@
 -- `nodes::read_header` meets its contract. Assumes nothing.
 use mathlib.Core.Path.{refl}
-use Rattle.nodes.proofs.HeaderLaws.{no-key, node-count-fits, broken, shaped}
+use Rattle.sizes.proofs.SizeLaws.{no-key}
+use Rattle.nodes.proofs.HeaderLaws.{node-count-fits, broken, shaped}
 use borrow.Author.Needs.{needs}
 use Rattle.nodes.proofs.read_header.Statement.{statement}
 use Rattle.nodes.proofs.read_header.Tie as tie

@@ -1,7 +1,8 @@
 -- `nodes::set_up_table` meets its contract. Assumes nothing.
 use mathlib.Core.Path.{refl}
 use Rattle.nodes.specs.Stores.{emptied}
-use Rattle.nodes.proofs.HeaderLaws.{no-key, header-word}
+use Rattle.sizes.proofs.SizeLaws.{no-key}
+use Rattle.nodes.proofs.HeaderLaws.{header-word}
 use lib.ListN.{length-set}
 use borrow.Author.Needs.{needs}
 use Rattle.nodes.proofs.set_up_table.Statement.{statement}

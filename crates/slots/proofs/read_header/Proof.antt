@@ -1,7 +1,8 @@
 -- `slots::read_header` meets its contract. Assumes nothing.
 use mathlib.Core.Path.{refl}
 use borrow.Author.Needs.{needs}
-use Rattle.slots.proofs.HeaderLaws.{no-key, broken, shaped}
+use Rattle.sizes.proofs.SizeLaws.{no-key}
+use Rattle.slots.proofs.HeaderLaws.{broken, shaped}
 use Rattle.slots.proofs.read_header.Statement.{statement}
 use Rattle.slots.proofs.read_header.Tie as tie
 

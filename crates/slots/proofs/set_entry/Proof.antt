@@ -1,9 +1,6 @@
 -- `slots::set_entry` meets its contract. Assumes nothing.
-use native.Mathlib.Nat.{add-zero}
-use native.Mathlib.Omega.{arith}
-use lib.ListN.{length-set}
+use Rattle.slots.proofs.Parts.{entry-part}
 use borrow.Author.Needs.{needs}
-use Rattle.slots.specs.Stores.{putEntry}
 use Rattle.slots.proofs.set_entry.Statement.{statement}
 use Rattle.slots.proofs.set_entry.Tie as tie
 
@@ -13,33 +10,35 @@ mul-start c = search needs
 add-start : tie.Need-add-start
 add-start c = search needs
 
-mul-store : tie.Need-mul-store
-mul-store c = search needs
+add-fill : tie.Need-add-fill
+add-fill c = search needs
 
-slice-write-store : tie.Need-slice-write-store
-slice-write-store c = search needs
+mul-fill : tie.Need-mul-fill
+mul-fill c = search needs
 
-mul-store-2 : tie.Need-mul-store-2
-mul-store-2 c = search needs
+sub-fill : tie.Need-sub-fill
+sub-fill c = search needs
 
-add-store : tie.Need-add-store
-add-store c = search needs
+part-fill-start : tie.Need-part-fill-start
+part-fill-start c = search needs
 
-add-store-2 : tie.Need-add-store-2
-add-store-2 c = search needs
+part-fill-end : tie.Need-part-fill-end
+part-fill-end c = search needs
 
-mul-store-3 : tie.Need-mul-store-3
-mul-store-3 c = search needs
+mul-fill-2 : tie.Need-mul-fill-2
+mul-fill-2 c = search needs
 
-slice-write-store-2 : tie.Need-slice-write-store-2
-slice-write-store-2 c = simp length-set (omega arith)
+add-fill-2 : tie.Need-add-fill-2
+add-fill-2 c = search needs
+
+fill-requires : tie.Need-fill-requires
+fill-requires c κs = search needs
 
 same-length : tie.Need-same-length
 same-length c = search needs
 
 returns : tie.Need-returns
-unfolding putEntry
-returns c = simp add-zero
+returns c = search (needs, entry-part)
 
 pub set-entry-spec : {M : Type 1} → statement M
 set-entry-spec =
@@ -47,12 +46,13 @@ set-entry-spec =
     (tie.spec
     mul-start
     add-start
-    mul-store
-    slice-write-store
-    mul-store-2
-    add-store
-    add-store-2
-    mul-store-3
-    slice-write-store-2
+    add-fill
+    mul-fill
+    sub-fill
+    part-fill-start
+    part-fill-end
+    mul-fill-2
+    add-fill-2
+    fill-requires
     same-length
     returns)

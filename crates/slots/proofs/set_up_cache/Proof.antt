@@ -3,7 +3,8 @@ use mathlib.Core.Path.{refl}
 use lib.ListN.{length-set}
 use borrow.Author.Needs.{needs}
 use Rattle.slots.specs.Stores.{emptied}
-use Rattle.slots.proofs.HeaderLaws.{no-key, header-word}
+use Rattle.sizes.proofs.SizeLaws.{no-key}
+use Rattle.slots.proofs.HeaderLaws.{header-word}
 use Rattle.slots.proofs.set_up_cache.Statement.{statement}
 use Rattle.slots.proofs.set_up_cache.Tie as tie
 
