@@ -16,4 +16,5 @@ pub mod Counting
 pub mod Carrying
 pub mod NodeSet
 pub mod Looking
+pub mod RoutesInside
 mod Samples

@@ -1,10 +1,10 @@
 -- "The descent stops at the last node that contains the address and yields that place, or that there is none." The descent from the
 -- root by the bits of X, which is an address, or a prefix that is looked for. Assumes nothing.
-use mathlib.Core.Bool.{true, false, cond}
+use mathlib.Core.Bool.{Bool, true, false, cond, _||_}
 use mathlib.Core.Option.{Option, none, some}
 use Prim.Native.Nat.{ℕ, zero, suc}
 use lib.ListN.{length, getD}
-use lib.Dec.{ltb}
+use lib.Dec.{ltb, eqb}
 use Rattle.prefix.specs.Bits.{Bits}
 use Rattle.prefix.specs.Prefix.{contains, common}
 use Rattle.trie.specs.Trie.{Cell, Root, Kid, Trie}
@@ -63,3 +63,26 @@ lengthFrom v X none none = 0
 
 unfoldable pub newFrom : Trie → Bits → Stop → ℕ
 newFrom v X stop = lengthFrom v X (stop .last) (stop .beyond)
+
+-- ---- what the stop of a descent by a prefix P tells: whether a route lies strictly inside P
+
+-- whether a cell points at a node
+unfoldable pub taken : Option ℕ → Bool
+taken none = false
+taken (some j) = true
+
+-- P is the node i's own prefix: whether the node has a child
+unfoldable pub insideAt : Trie → ℕ → Bool
+insideAt v i = taken (v .child (Kid i false)) || taken (v .child (Kid i true))
+
+-- no node has the prefix P: whether P contains the node beyond, if there is one
+unfoldable pub insideBeyond : Trie → Bits → Option ℕ → Bool
+insideBeyond v P none = false
+insideBeyond v P (some j) = contains P (v .prefix j)
+
+unfoldable pub insideLast : Trie → Bits → Option ℕ → Option ℕ → Bool
+insideLast v P none beyond = insideBeyond v P beyond
+insideLast v P (some i) beyond = cond (eqb (length (v .prefix i)) (length P)) (insideAt v i) (insideBeyond v P beyond)
+
+unfoldable pub insideFrom : Trie → Bits → Stop → Bool
+insideFrom v P stop = insideLast v P (stop .last) (stop .beyond)
