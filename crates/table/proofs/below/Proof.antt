@@ -1,3 +1,4 @@
+-- `table::below` meets its contract. Assumes nothing.
 use Rattle.prefix.specs.Addresses.{addressBits}
 use native.Mathlib.Omega.{arith}
 use Rattle.table.proofs.Reading.{bit-small, below-bit, below-none}

@@ -1,3 +1,4 @@
+-- `table::better` meets its contract. Assumes nothing.
 use Rattle.table.proofs.Reading.{better-route, better-branch}
 use borrow.Author.Needs.{needs}
 use Rattle.table.proofs.better.Statement.{statement}

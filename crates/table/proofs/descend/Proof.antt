@@ -1,3 +1,4 @@
+-- `table::descend` meets its contract. Assumes nothing.
 use borrow.Author.Needs.{needs}
 use Prim.Native.Nat.{_+_, _-_}
 use Rattle.table.specs.Tables.{ipv4Bits}

@@ -1,3 +1,4 @@
+-- `table::holds` meets its contract. Assumes nothing.
 use Rattle.table.proofs.Reading.{holds-not, holds-is}
 use borrow.Author.Needs.{needs}
 use Rattle.table.proofs.holds.Statement.{statement}

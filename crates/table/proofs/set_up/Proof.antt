@@ -1,3 +1,4 @@
+-- `table::set_up` meets its contract. Assumes nothing.
 use Rattle.table.proofs.Fresh.{table-set-up}
 use borrow.Author.Needs.{needs}
 use Rattle.table.proofs.set_up.Statement.{statement}

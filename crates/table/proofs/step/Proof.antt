@@ -1,3 +1,4 @@
+-- `table::step` meets its contract. Assumes nothing.
 use Rattle.table.proofs.Turning.{over-none, over-out, over-many, parted, on}
 use borrow.Author.Needs.{needs}
 use Rattle.table.proofs.step.Statement.{statement}

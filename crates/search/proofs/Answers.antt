@@ -1,0 +1,110 @@
+-- The answer of a search, by where the descent stopped. Assumes nothing.
+use mathlib.Core.Path.{_≡_, refl, sym, ap, _∙_}
+use mathlib.Core.List.{List, []}
+use mathlib.Core.Option.{none, some, Option·none-ne-some}
+use Prim.Native.Nat.{ℕ, suc, _-_, _<_}
+use native.Mathlib.Omega.{arith}
+use lib.ListN.{length, length-take}
+use lib.Seq.{take-all}
+use Rattle.prefix.specs.Bits.{Bits, bits}
+use Rattle.prefix.specs.declared.Address.{Address}
+use Rattle.prefix.proofs.BitLaws.{length-bits}
+use Rattle.model.specs.Routes.{Route, match}
+use Rattle.model.specs.Model.{newLength}
+use Rattle.model.specs.Nodes.{examined}
+use Rattle.model.specs.Demands.{NoLonger}
+use Rattle.trie.specs.Walk as walk
+use Rattle.trie.specs.Walk.{lengthFrom}
+use Rattle.trie.specs.Routes.{routesOf}
+use Rattle.trie.proofs.Holding.{in-held}
+use Rattle.trie.proofs.Looking.{descent-best, descent-match, descent-drop, descent-examined, descent-new}
+use Rattle.nodes.specs.Layout.{nodeWord, word, nodesOf, trieOf, numbered, Shaped}
+use Rattle.nodes.specs.Headers.{HeaderRead}
+use Rattle.nodes.specs.declared.Header.{Header}
+use Rattle.nodes.specs.declared.Shape.{Shape}
+use Rattle.nodes.specs.declared.Shape.the-variants.{Fits, Broken}
+use Rattle.nodes.proofs.Coding.{numbered-node, none-numbered}
+use Rattle.nodes.proofs.Spelling.{hop-word}
+use Rattle.table.specs.Tables.{ipv4Bits, routes, SoundTable}
+use Rattle.table.specs.Stops.{Stopped, stopOf}
+use Rattle.table.specs.declared.Stop.{Stop}
+use Rattle.table.proofs.Reading.{length-ipv4, own-length}
+use Rattle.search.specs.Matches.{foundFor, Matched}
+use Rattle.search.specs.Looks.{foundAt, Length, Answered}
+use Rattle.search.specs.declared.Answer.{Answer}
+use Rattle.search.specs.declared.Found.{Found}
+use Rattle.search.specs.declared.Found.the-variants.{Match, Nothing}
+
+-- ---- a node as a match
+
+module _ (w : List ℕ) (p mark : ℕ) (pos : 0 < p) (is-mark : mark ≡ word w (nodeWord p 2)) where
+  hop-is : trieOf w .hop (p - 1) ≡ numbered mark
+  hop-is = sym (ap numbered is-mark ∙ hop-word w p pos)
+
+  pub matched-none : (own : ℕ) → mark ≡ 0 → Nothing ≡ foundAt (trieOf w .hop (p - 1)) own
+  unfolding foundAt
+  matched-none own z = rw (hop-is, z, none-numbered)
+
+  pub matched-some : (own own′ : ℕ) → ¬ (mark ≡ 0) → own′ ≡ own → Match (mark - 1) own′ ≡ foundAt (trieOf w .hop (p - 1)) own
+  unfolding foundAt
+  matched-some own own′ n e = rw (hop-is, numbered-node mark (omega arith), e)
+
+-- ---- what the header's answer tells
+
+module _ (w : List ℕ) (shape : Shape) (read : HeaderRead w shape) where
+  pub broken-sound : shape ≡ Broken → SoundTable w → (X : Bits) (r : Answer) → Matched w X r
+  broken-sound e S X r = absurd ((rw e at read) (S .shaped))
+
+  pub shape-fits : (h : Header) → shape ≡ Fits h → Shaped w
+  shape-fits h e = (rw e at read) .0
+
+  pub shape-nodes : (h : Header) → shape ≡ Fits h → h .nodes ≡ nodesOf w
+  shape-nodes h e = (rw e at read) .2
+
+-- ---- the descent has stopped
+
+short-routes : (w : List ℕ) (x : Address) → NoLonger (length (ipv4Bits x)) (routesOf (trieOf w) (nodesOf w))
+unfolding trieOf
+short-routes w x R i =
+    let r = in-held (trieOf w) (nodesOf w) R i in
+    let u : ℕ = word w (nodeWord (suc (r .slot)) 0) in
+    let n : ℕ = word w (nodeWord (suc (r .slot)) 1) in
+    omega (arith, ap length (r .is-prefix), length-ipv4 x, length-take n (bits 32 u), length-bits 32 u)
+
+module _ (w : List ℕ) (x : Address) (s : Stop) (h : Stopped w (ipv4Bits x) 32 s) where
+  place : SoundTable w → stopOf s ≡ walk.descent (trieOf w) (ipv4Bits x)
+  place S = rw (take-all 32 (ipv4Bits x) (omega (arith, length-ipv4 x))) at (h .place S)
+
+  counted : SoundTable w → s .examined ≡ examined (routes w) (ipv4Bits x)
+  unfolding routes
+  counted S = ap (λ (r : walk.Stop). r .examined) (place S) ∙ sym (descent-examined (S .trie) (ipv4Bits x) (S .branches) (short-routes w x))
+
+  best-is : SoundTable w → walk.descent (trieOf w) (ipv4Bits x) .best ≡ numbered (s .best)
+  best-is S = sym (ap (λ (r : walk.Stop). r .best) (place S))
+
+  pub answer-none : s .best ≡ 0 → Answered w (ipv4Bits x) (record { found = Nothing; examined = s .examined; least = 0 })
+  unfolding routes
+  answer-none z = record {
+    sound = λ S.
+        let e : match (routes w) (ipv4Bits x) ≡ none = descent-drop (S .trie) (ipv4Bits x) (best-is S ∙ rw z none-numbered) in
+        record { is-match = rw e; count = counted S; least = λ M f. absurd (Option·none-ne-some M (sym e ∙ f)) };
+    any = omega arith;
+  }
+
+  module _ (some-best : ¬ (s .best ≡ 0)) (f : Found) (n : ℕ) where
+    pub answer-match : f ≡ foundAt (trieOf w .hop (s .best - 1)) (word w (nodeWord (s .best) 1))
+        → Length w (lengthFrom (trieOf w) (ipv4Bits x) (numbered (s .last)) (numbered (s .beyond))) n
+        → Answered w (ipv4Bits x) (record { found = f; examined = s .examined; least = n })
+    unfolding routes foundAt walk.newFrom
+    answer-match e l = record { sound = λ S. record { is-match = is-match S; count = counted S; least = least S }; any = l .small }
+      where
+        is-match : SoundTable w → f ≡ foundFor (match (routes w) (ipv4Bits x))
+        is-match S =
+            let b = best-is S ∙ numbered-node (s .best) (omega arith) in
+            let d = descent-best (S .trie) (ipv4Bits x) (s .best - 1) b in
+            let own = own-length w (s .best) (omega arith) _ refl (S .plain .short (s .best) (omega arith) (h .best-in)) in
+            e ∙ rw (descent-match (S .trie) (ipv4Bits x) (s .best - 1) (d .2 .0) b (d .2 .1), d .2 .1, own) refl
+
+        least : SoundTable w → (M : Route) → match (routes w) (ipv4Bits x) ≡ some M → n ≡ newLength (routes w) [] (ipv4Bits x) M
+        least S M m =
+            l .right S ∙ ap (walk.newFrom (trieOf w) (ipv4Bits x)) (place S) ∙ sym (descent-new (S .trie) (ipv4Bits x) (S .branches) M m)

@@ -1,0 +1,92 @@
+-- What the nodes where a descent stopped tell of the length that a miss stores. Assumes nothing.
+use mathlib.Core.Path.{_≡_, refl, sym, ap, _∙_}
+use mathlib.Core.Bool.{true, false}
+use mathlib.Core.List.{List}
+use Prim.Native.Nat.{ℕ, suc, _+_, _-_, _*_, _≤_, _<_}
+use native.Mathlib.Omega.{arith}
+use lib.ListN.{take}
+use lib.Seq.{length-take-le}
+use mir.Syntax.{w32}
+use mir.Val.{Fits}
+use Rattle.prefix.specs.Bits.{Bits, bits}
+use Rattle.prefix.specs.Prefix.{common}
+use Rattle.prefix.specs.Addresses.{addressBits}
+use Rattle.prefix.specs.declared.Address.{Address}
+use Rattle.prefix.proofs.Common.{common-sym, common-le}
+use Rattle.prefix.proofs.AddressLaws.{length-address, common-32}
+use Rattle.trie.specs.Trie.{Kid}
+use Rattle.trie.specs.Walk.{lengthAt, lengthFrom}
+use Rattle.nodes.specs.Layout.{nodeWord, cellWord, word, nodesOf, trieOf, numbered}
+use Rattle.nodes.proofs.Coding.{numbered-node, none-numbered, cell-side}
+use Rattle.nodes.proofs.Spelling.{child-word}
+use Rattle.table.specs.Tables.{ipv4Bits}
+use Rattle.table.proofs.Reading.{own-length, node-bits}
+use Rattle.search.specs.Looks.{lengthBelow, Length}
+
+-- the bits in which an address agrees with the first of another
+module _ (x q : Address) (own r : ℕ) (short : own ≤ 32) (is : r ≡ common (addressBits x) (take own (addressBits q))) where
+  few : r ≤ own
+  few = omega (
+    arith,
+    is,
+    common-sym (addressBits x) (take own (addressBits q)),
+    common-le (take own (addressBits q)) (addressBits x),
+    length-take-le own (addressBits q) (omega (arith, length-address q)),
+  )
+
+  pub past-fits : Fits w32 (1 + r)
+  past-fits = omega (arith, few)
+
+module _ (w : List ℕ) (p : ℕ) (pos : 0 < p) (in-use : p ≤ nodesOf w) (own : ℕ) (is-own : own ≡ word w (nodeWord p 1)) where
+  -- no node of a sound table is longer than an address
+  pub too-long : (n : ℕ) → 32 < own → Length w n 0
+  too-long n l = record { small = omega arith; right = λ S. absurd (omega (arith, S .plain .short p pos in-use)) }
+
+  module _ (short : own ≤ 32) where
+    -- ---- the node after the last
+
+    pub past-is : (x q : Address) (r : ℕ) → take 32 (addressBits q) ≡ bits 32 (word w (nodeWord p 0)) → r ≡ common (addressBits x) (take own (addressBits q))
+        → Length w (suc (common (ipv4Bits x) (trieOf w .prefix (p - 1)))) (1 + r)
+    past-is x q r e is = record { small = omega (arith, few x q own r short is); right = λ S. rw common-is (omega arith) }
+      where
+        common-is : common (ipv4Bits x) (trieOf w .prefix (p - 1)) ≡ r
+        common-is =
+            ap (common (ipv4Bits x)) (sym (node-bits w p pos own is-own q e short)) ∙ common-sym _ _ ∙ common-32 own q x short ∙ common-sym _ _ ∙ sym is
+
+    -- ---- the last node
+
+    module _ (l : ℕ) (is-left : l ≡ word w (cellWord (2 * p))) where
+      left : numbered l ≡ trieOf w .child (Kid (p - 1) false)
+      left = let e : 2 * p ≡ 2 * p + 0 = omega arith in
+          ap numbered is-left ∙ child-word w (2 * p) (λ z. omega arith) ∙ rw e (ap (trieOf w .child) (cell-side p 0 pos (omega arith)))
+
+      pub end-left : ¬ (l ≡ 0) → Length w (lengthBelow (trieOf w) (p - 1)) (own + 1)
+      unfolding lengthAt
+      end-left n = record { small = omega arith; right = λ S. rw (← left, numbered-node l (omega arith)) (omega (arith, own-length w p pos own is-own short)) }
+
+      module _ (no-left : l ≡ 0) (r : ℕ) (is-right : r ≡ word w (cellWord (2 * p + 1))) where
+        right-is : numbered r ≡ trieOf w .child (Kid (p - 1) true)
+        right-is = ap numbered is-right ∙ child-word w (2 * p + 1) (λ z. omega arith) ∙ ap (trieOf w .child) (cell-side p 1 pos (omega arith))
+
+        pub end-right : ¬ (r ≡ 0) → Length w (lengthBelow (trieOf w) (p - 1)) (own + 1)
+        unfolding lengthAt
+        end-right n = record { small = omega arith; right = λ S. rw (← left, ← right-is, no-left, none-numbered, numbered-node r (omega arith)) (omega (arith, own-length w p pos own is-own short)) }
+
+        pub end-leaf : r ≡ 0 → Length w (lengthBelow (trieOf w) (p - 1)) own
+        unfolding lengthAt
+        end-leaf z = record { small = omega arith; right = λ S. rw (← left, ← right-is, no-left, z, none-numbered) (sym (own-length w p pos own is-own short)) }
+
+-- ---- which of the two it is
+
+module _ (w : List ℕ) (X : Bits) (last beyond r : ℕ) where
+  pub least-past : ¬ (beyond ≡ 0) → Length w (suc (common X (trieOf w .prefix (beyond - 1)))) r → Length w (lengthFrom (trieOf w) X (numbered last) (numbered beyond)) r
+  unfolding lengthFrom
+  least-past n h = rw (numbered-node beyond (omega arith)) h
+
+  pub least-end : beyond ≡ 0 → ¬ (last ≡ 0) → Length w (lengthBelow (trieOf w) (last - 1)) r → Length w (lengthFrom (trieOf w) X (numbered last) (numbered beyond)) r
+  unfolding lengthFrom
+  least-end z n h = rw (z, none-numbered, numbered-node last (omega arith)) h
+
+pub least-none : (w : List ℕ) (X : Bits) (last beyond : ℕ) → beyond ≡ 0 → last ≡ 0 → Length w (lengthFrom (trieOf w) X (numbered last) (numbered beyond)) 0
+unfolding lengthFrom
+least-none w X last beyond z y = rw (z, y, none-numbered) (record { small = omega arith; right = λ S. refl })

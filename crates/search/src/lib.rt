@@ -1,0 +1,125 @@
+// Longest match over a table store.
+use nodes::Shape;
+use prefix::Address;
+use table::Stop;
+ghost use mathlib.Core.Path.{_≡_};
+ghost use Prim.Native.Nat.{suc, _-_, _≤_, _<_};
+ghost use Rattle.prefix.specs.Prefix.{common};
+ghost use Rattle.trie.specs.Walk.{lengthFrom};
+ghost use Rattle.nodes.specs.Layout.{nodeWord, word, nodesOf, trieOf, numbered, Shaped, Room};
+ghost use Rattle.table.specs.Tables.{SoundTable, ipv4Bits};
+ghost use Rattle.table.specs.Stops.{Stopped};
+ghost use Rattle.search.specs.Matches.{Matched};
+ghost use Rattle.search.specs.Looks.{foundAt, lengthBelow, Length, Answered};
+
+// The hop and the length of the longest route that contains the address.
+pub enum Found {
+    Match(u32, u32),
+    Nothing,
+}
+
+pub struct Answer {
+    pub found: Found,
+    // nodes examined
+    pub examined: u32,
+    // with a match: the length of the shortest prefix of the address that is no shorter and holds no longer route
+    pub least: u32,
+}
+
+pub fn longest_match(store: &[u32], x: Address) -> Answer
+    ensures sound { λ r. ⌜ (SoundTable (now (store .entry)) → Matched (now (store .entry)) (ipv4Bits x) r) ⌝ }
+    ensures any { λ r. ⌜ r .least ≤ 33 ⌝ }
+{
+    let Shape::Fits(header) = nodes::read_header(store) else {
+        return Answer {
+            found: Found::Nothing,
+            examined: 0,
+            least: 0,
+        };
+    };
+    let stop = table::descend(store, header.nodes, x, 32);
+    answer_at(store, x, stop)
+}
+
+// The match is the last route that contains the address.
+fn answer_at(store: &[u32], x: Address, stop: Stop) -> Answer
+    requires { ⌜ Shaped (now store) ⌝ }
+    requires { ⌜ Stopped (now store) (ipv4Bits x) 32 stop ⌝ }
+    ensures { λ r. ⌜ Answered (now (store .entry)) (ipv4Bits x) r ⌝ }
+{
+    let best = stop.best;
+    if best == 0 {
+        return Answer {
+            found: Found::Nothing,
+            examined: stop.examined,
+            least: 0,
+        };
+    }
+    Answer {
+        found: matched(store, best),
+        examined: stop.examined,
+        least: least(store, x, stop),
+    }
+}
+
+// Node p as a match.
+fn matched(store: &[u32], p: u32) -> Found
+    requires { ⌜ (Room (now store) p) × (0 < p) ⌝ }
+    ensures { λ r. ⌜ r ≡ foundAt (trieOf (now (store .entry)) .hop (p - 1)) (word (now (store .entry)) (nodeWord p 1)) ⌝ }
+{
+    let mark = nodes::mark_of(store, p);
+    if mark == 0 {
+        return Found::Nothing;
+    }
+    Found::Match(mark - 1, nodes::length_of(store, p))
+}
+
+// One past the last bit in which the address agrees with a route that does not contain it, or the match's own length: the
+// node after the last that contains the address says it, or whether the last one has any node below it.
+fn least(store: &[u32], x: Address, stop: Stop) -> u32
+    requires { ⌜ Shaped (now store) ⌝ }
+    requires { ⌜ Stopped (now store) (ipv4Bits x) 32 stop ⌝ }
+    ensures { λ r. ⌜ Length (now (store .entry)) (lengthFrom (trieOf (now (store .entry))) (ipv4Bits x) (numbered (stop .last)) (numbered (stop .beyond))) r ⌝ }
+{
+    let beyond = stop.beyond;
+    if beyond != 0 {
+        return past(store, x, beyond);
+    }
+    let last = stop.last;
+    if last == 0 {
+        return 0;
+    }
+    at_end(store, last)
+}
+
+// One past the bits in which the address agrees with node p.
+fn past(store: &[u32], x: Address, p: u32) -> u32
+    requires { ⌜ Shaped (now store) ⌝ }
+    requires { ⌜ (0 < p) × (p ≤ nodesOf (now store)) ⌝ }
+    ensures { λ r. ⌜ Length (now (store .entry)) (suc (common (ipv4Bits x) (trieOf (now (store .entry)) .prefix (p - 1)))) r ⌝ }
+{
+    let own = nodes::length_of(store, p);
+    if 32 < own {
+        return 0;
+    }
+    1 + prefix::common_bits_high(x, nodes::address_of(store, p), own)
+}
+
+// The length of node p, and one more where it has nodes below it.
+fn at_end(store: &[u32], p: u32) -> u32
+    requires { ⌜ Shaped (now store) ⌝ }
+    requires { ⌜ (0 < p) × (p ≤ nodesOf (now store)) ⌝ }
+    ensures { λ r. ⌜ Length (now (store .entry)) (lengthBelow (trieOf (now (store .entry))) (p - 1)) r ⌝ }
+{
+    let own = nodes::length_of(store, p);
+    if 32 < own {
+        return 0;
+    }
+    if nodes::child_of(store, 2 * p) != 0 {
+        return own + 1;
+    }
+    if nodes::child_of(store, 2 * p + 1) != 0 {
+        return own + 1;
+    }
+    own
+}
