@@ -4,7 +4,7 @@ use mathlib.Core.List.{List, []}
 use mathlib.Core.Option.{none, some, Option·none-ne-some}
 use Prim.Native.Nat.{ℕ, suc, _-_, _<_}
 use native.Mathlib.Omega.{arith}
-use lib.ListN.{length, length-take}
+use lib.ListN.{length, take, length-take}
 use lib.Seq.{take-all}
 use Rattle.prefix.specs.Bits.{Bits, bits}
 use Rattle.prefix.specs.declared.Address.{Address}
@@ -61,7 +61,25 @@ module _ (w : List ℕ) (shape : Shape) (read : HeaderRead w shape) where
   pub shape-nodes : (h : Header) → shape ≡ Fits h → h .nodes ≡ nodesOf w
   shape-nodes h e = (rw e at read) .2
 
--- ---- the descent has stopped
+-- ---- the last route that contains what was looked for
+
+module _ (w : List ℕ) (X : Bits) (n : ℕ) (s : Stop) (h : Stopped w X n s) (S : SoundTable w) where
+  best-is : walk.descent (trieOf w) (take n X) .best ≡ numbered (s .best)
+  best-is = sym (ap (λ (r : walk.Stop). r .best) (h .place S))
+
+  pub best-none : s .best ≡ 0 → match (routes w) (take n X) ≡ none
+  unfolding routes
+  best-none z = descent-drop (S .trie) (take n X) (best-is ∙ rw z none-numbered)
+
+  pub best-match : ¬ (s .best ≡ 0) → foundAt (trieOf w .hop (s .best - 1)) (word w (nodeWord (s .best) 1)) ≡ foundFor (match (routes w) (take n X))
+  unfolding routes foundAt
+  best-match some-best =
+      let b = best-is ∙ numbered-node (s .best) (omega arith) in
+      let d = descent-best (S .trie) (take n X) (s .best - 1) b in
+      let own = own-length w (s .best) (omega arith) _ refl (S .plain .short (s .best) (omega arith) (h .best-in)) in
+      rw (descent-match (S .trie) (take n X) (s .best - 1) (d .2 .0) b (d .2 .1), d .2 .1, own) refl
+
+-- ---- the descent by an address has stopped
 
 short-routes : (w : List ℕ) (x : Address) → NoLonger (length (ipv4Bits x)) (routesOf (trieOf w) (nodesOf w))
 unfolding trieOf
@@ -72,21 +90,20 @@ short-routes w x R i =
     omega (arith, ap length (r .is-prefix), length-ipv4 x, length-take n (bits 32 u), length-bits 32 u)
 
 module _ (w : List ℕ) (x : Address) (s : Stop) (h : Stopped w (ipv4Bits x) 32 s) where
+  whole : take 32 (ipv4Bits x) ≡ ipv4Bits x
+  whole = take-all 32 (ipv4Bits x) (omega (arith, length-ipv4 x))
+
   place : SoundTable w → stopOf s ≡ walk.descent (trieOf w) (ipv4Bits x)
-  place S = rw (take-all 32 (ipv4Bits x) (omega (arith, length-ipv4 x))) at (h .place S)
+  place S = rw whole at (h .place S)
 
   counted : SoundTable w → s .examined ≡ examined (routes w) (ipv4Bits x)
   unfolding routes
   counted S = ap (λ (r : walk.Stop). r .examined) (place S) ∙ sym (descent-examined (S .trie) (ipv4Bits x) (S .branches) (short-routes w x))
 
-  best-is : SoundTable w → walk.descent (trieOf w) (ipv4Bits x) .best ≡ numbered (s .best)
-  best-is S = sym (ap (λ (r : walk.Stop). r .best) (place S))
-
   pub answer-none : s .best ≡ 0 → Answered w (ipv4Bits x) (record { found = Nothing; examined = s .examined; least = 0 })
-  unfolding routes
   answer-none z = record {
     sound = λ S.
-        let e : match (routes w) (ipv4Bits x) ≡ none = descent-drop (S .trie) (ipv4Bits x) (best-is S ∙ rw z none-numbered) in
+        let e : match (routes w) (ipv4Bits x) ≡ none = rw whole at (best-none w (ipv4Bits x) 32 s h S z) in
         record { is-match = rw e; count = counted S; least = λ M f. absurd (Option·none-ne-some M (sym e ∙ f)) };
     any = omega arith;
   }
@@ -95,16 +112,9 @@ module _ (w : List ℕ) (x : Address) (s : Stop) (h : Stopped w (ipv4Bits x) 32 
     pub answer-match : f ≡ foundAt (trieOf w .hop (s .best - 1)) (word w (nodeWord (s .best) 1))
         → Length w (lengthFrom (trieOf w) (ipv4Bits x) (numbered (s .last)) (numbered (s .beyond))) n
         → Answered w (ipv4Bits x) (record { found = f; examined = s .examined; least = n })
-    unfolding routes foundAt walk.newFrom
-    answer-match e l = record { sound = λ S. record { is-match = is-match S; count = counted S; least = least S }; any = l .small }
+    unfolding routes walk.newFrom
+    answer-match e l = record { sound = λ S. record { is-match = e ∙ rw whole at (best-match w (ipv4Bits x) 32 s h S some-best); count = counted S; least = least S }; any = l .small }
       where
-        is-match : SoundTable w → f ≡ foundFor (match (routes w) (ipv4Bits x))
-        is-match S =
-            let b = best-is S ∙ numbered-node (s .best) (omega arith) in
-            let d = descent-best (S .trie) (ipv4Bits x) (s .best - 1) b in
-            let own = own-length w (s .best) (omega arith) _ refl (S .plain .short (s .best) (omega arith) (h .best-in)) in
-            e ∙ rw (descent-match (S .trie) (ipv4Bits x) (s .best - 1) (d .2 .0) b (d .2 .1), d .2 .1, own) refl
-
         least : SoundTable w → (M : Route) → match (routes w) (ipv4Bits x) ≡ some M → n ≡ newLength (routes w) [] (ipv4Bits x) M
         least S M m =
             l .right S ∙ ap (walk.newFrom (trieOf w) (ipv4Bits x)) (place S) ∙ sym (descent-new (S .trie) (ipv4Bits x) (S .branches) M m)

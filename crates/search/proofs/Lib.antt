@@ -1,2 +1,4 @@
 pub mod Lengths
 pub mod Answers
+pub mod RoutesInside
+pub mod Standings

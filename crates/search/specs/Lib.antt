@@ -1,2 +1,3 @@
 pub mod Matches
 pub mod Looks
+pub mod Standings

@@ -1,16 +1,18 @@
-// Longest match over a table store.
+// Longest match over a table store, and what the table says of a prefix.
 use nodes::Shape;
 use prefix::Address;
 use table::Stop;
 ghost use mathlib.Core.Path.{_≡_};
 ghost use Prim.Native.Nat.{suc, _-_, _≤_, _<_};
+ghost use lib.ListN.{take};
 ghost use Rattle.prefix.specs.Prefix.{common};
-ghost use Rattle.trie.specs.Walk.{lengthFrom};
+ghost use Rattle.trie.specs.Walk.{lengthFrom, insideAt, insideBeyond, insideFrom};
 ghost use Rattle.nodes.specs.Layout.{nodeWord, word, nodesOf, trieOf, numbered, Shaped, Room};
 ghost use Rattle.table.specs.Tables.{SoundTable, ipv4Bits};
-ghost use Rattle.table.specs.Stops.{Stopped};
+ghost use Rattle.table.specs.Stops.{Stopped, stopOf};
 ghost use Rattle.search.specs.Matches.{Matched};
 ghost use Rattle.search.specs.Looks.{foundAt, lengthBelow, Length, Answered};
+ghost use Rattle.search.specs.Standings.{Tells, Judged, JudgedAt};
 
 // The hop and the length of the longest route that contains the address.
 pub enum Found {
@@ -122,4 +124,97 @@ fn at_end(store: &[u32], p: u32) -> u32
         return own + 1;
     }
     own
+}
+
+// ---- a prefix
+
+// What a table says of a prefix: the match of the whole prefix, and whether a route lies strictly inside it.
+pub struct Standing {
+    pub found: Found,
+    pub inside: bool,
+}
+
+// The prefix is the first n bits of the address.
+pub fn judge(store: &[u32], a: Address, n: u32) -> Standing
+    ensures { λ r. ⌜ JudgedAt (now (store .entry)) (ipv4Bits a) n r ⌝ }
+{
+    if 32 < n {
+        return Standing {
+            found: Found::Nothing,
+            inside: false,
+        };
+    }
+    let Shape::Fits(header) = nodes::read_header(store) else {
+        return Standing {
+            found: Found::Nothing,
+            inside: false,
+        };
+    };
+    let stop = table::descend(store, header.nodes, a, n);
+    standing_at(store, a, n, stop)
+}
+
+// The match is the last route that contains the prefix.
+fn standing_at(store: &[u32], a: Address, n: u32, stop: Stop) -> Standing
+    requires { ⌜ Shaped (now store) ⌝ }
+    requires { ⌜ n ≤ 32 ⌝ }
+    requires { ⌜ Stopped (now store) (ipv4Bits a) n stop ⌝ }
+    ensures { λ r. ⌜ (SoundTable (now (store .entry)) → Judged (now (store .entry)) (take n (ipv4Bits a)) r) ⌝ }
+{
+    let route = stop.best;
+    let inside = inside_at(store, a, n, stop);
+    if route == 0 {
+        return Standing {
+            found: Found::Nothing,
+            inside,
+        };
+    }
+    Standing {
+        found: matched(store, route),
+        inside,
+    }
+}
+
+// Whether a route lies strictly inside the prefix: below its own node, or else at the node after the last that contains it.
+fn inside_at(store: &[u32], a: Address, n: u32, stop: Stop) -> bool
+    requires { ⌜ Shaped (now store) ⌝ }
+    requires { ⌜ n ≤ 32 ⌝ }
+    requires { ⌜ Stopped (now store) (ipv4Bits a) n stop ⌝ }
+    ensures { λ r. ⌜ Tells (now (store .entry)) (insideFrom (trieOf (now (store .entry))) (take n (ipv4Bits a)) (stopOf stop)) r ⌝ }
+{
+    let last = stop.last;
+    if last == 0 {
+        return lies_inside(store, stop.beyond, a, n);
+    }
+    if nodes::length_of(store, last) != n {
+        return lies_inside(store, stop.beyond, a, n);
+    }
+    has_child(store, last)
+}
+
+// Whether node p, if there is one, lies inside the first n bits of a.
+fn lies_inside(store: &[u32], p: u32, a: Address, n: u32) -> bool
+    requires { ⌜ Shaped (now store) ⌝ }
+    requires { ⌜ (p ≤ nodesOf (now store)) × (n ≤ 32) ⌝ }
+    ensures { λ r. ⌜ Tells (now (store .entry)) (insideBeyond (trieOf (now (store .entry))) (take n (ipv4Bits a)) (numbered p)) r ⌝ }
+{
+    if p == 0 {
+        return false;
+    }
+    if nodes::length_of(store, p) < n {
+        return false;
+    }
+    prefix::covers_high(a, n, nodes::address_of(store, p))
+}
+
+// Whether node p has nodes below it.
+fn has_child(store: &[u32], p: u32) -> bool
+    requires { ⌜ Shaped (now store) ⌝ }
+    requires { ⌜ (0 < p) × (p ≤ nodesOf (now store)) ⌝ }
+    ensures { λ r. ⌜ r ≡ insideAt (trieOf (now (store .entry))) (p - 1) ⌝ }
+{
+    if nodes::child_of(store, 2 * p) != 0 {
+        return true;
+    }
+    nodes::child_of(store, 2 * p + 1) != 0
 }
