@@ -18,17 +18,16 @@ use Rattle.trie.specs.Walk.{lengthFrom}
 use Rattle.trie.specs.Routes.{routesOf}
 use Rattle.trie.proofs.Holding.{in-held}
 use Rattle.trie.proofs.Looking.{descent-best, descent-match, descent-drop, descent-examined, descent-new}
-use Rattle.nodes.specs.Layout.{nodeWord, word, nodesOf, trieOf, numbered, Shaped}
+use Rattle.nodes.specs.Layout.{nodeWord, word, nodesOf, trieOf, numbered}
 use Rattle.nodes.specs.Headers.{HeaderRead}
-use Rattle.nodes.specs.declared.Header.{Header}
 use Rattle.nodes.specs.declared.Shape.{Shape}
-use Rattle.nodes.specs.declared.Shape.the-variants.{Fits, Broken}
+use Rattle.nodes.specs.declared.Shape.the-variants.{Broken}
 use Rattle.nodes.proofs.Coding.{numbered-node, none-numbered}
-use Rattle.nodes.proofs.Spelling.{hop-word}
 use Rattle.table.specs.Tables.{ipv4Bits, routes, SoundTable}
 use Rattle.table.specs.Stops.{Stopped, stopOf}
 use Rattle.table.specs.declared.Stop.{Stop}
-use Rattle.table.proofs.Reading.{length-ipv4, own-length}
+use Rattle.table.proofs.Reading.{length-ipv4, own-length, mark-hop}
+use Rattle.table.proofs.Shapes.{shape-broken}
 use Rattle.search.specs.Matches.{foundFor, Matched}
 use Rattle.search.specs.Looks.{foundAt, Length, Answered}
 use Rattle.search.specs.declared.Answer.{Answer}
@@ -38,28 +37,18 @@ use Rattle.search.specs.declared.Found.the-variants.{Match, Nothing}
 -- ---- a node as a match
 
 module _ (w : List ℕ) (p mark : ℕ) (pos : 0 < p) (is-mark : mark ≡ word w (nodeWord p 2)) where
-  hop-is : trieOf w .hop (p - 1) ≡ numbered mark
-  hop-is = sym (ap numbered is-mark ∙ hop-word w p pos)
-
   pub matched-none : (own : ℕ) → mark ≡ 0 → Nothing ≡ foundAt (trieOf w .hop (p - 1)) own
   unfolding foundAt
-  matched-none own z = rw (hop-is, z, none-numbered)
+  matched-none own z = rw (mark-hop w p mark pos is-mark, z, none-numbered)
 
   pub matched-some : (own own′ : ℕ) → ¬ (mark ≡ 0) → own′ ≡ own → Match (mark - 1) own′ ≡ foundAt (trieOf w .hop (p - 1)) own
   unfolding foundAt
-  matched-some own own′ n e = rw (hop-is, numbered-node mark (omega arith), e)
+  matched-some own own′ n e = rw (mark-hop w p mark pos is-mark, numbered-node mark (omega arith), e)
 
--- ---- what the header's answer tells
+-- ---- no header that fits
 
-module _ (w : List ℕ) (shape : Shape) (read : HeaderRead w shape) where
-  pub broken-sound : shape ≡ Broken → SoundTable w → (X : Bits) (r : Answer) → Matched w X r
-  broken-sound e S X r = absurd ((rw e at read) (S .shaped))
-
-  pub shape-fits : (h : Header) → shape ≡ Fits h → Shaped w
-  shape-fits h e = (rw e at read) .0
-
-  pub shape-nodes : (h : Header) → shape ≡ Fits h → h .nodes ≡ nodesOf w
-  shape-nodes h e = (rw e at read) .2
+pub broken-sound : (w : List ℕ) (shape : Shape) → HeaderRead w shape → shape ≡ Broken → SoundTable w → (X : Bits) (r : Answer) → Matched w X r
+broken-sound w shape read e S X r = absurd (shape-broken w shape read e (S .shaped))
 
 -- ---- the last route that contains what was looked for
 

@@ -1,10 +1,11 @@
 -- What the nodes where a descent stopped tell of the length that a miss stores. Assumes nothing.
 use mathlib.Core.Path.{_≡_, refl, sym, ap, _∙_}
-use mathlib.Core.Bool.{true, false}
+use mathlib.Core.Bool.{Bool, true, false, cond, _||_}
 use mathlib.Core.List.{List}
-use Prim.Native.Nat.{ℕ, suc, _+_, _-_, _*_, _≤_, _<_}
+use mathlib.Core.Option.{Option, none, some}
+use Prim.Native.Nat.{ℕ, suc, _+_, _-_, _≤_, _<_}
 use native.Mathlib.Omega.{arith}
-use lib.ListN.{take}
+use lib.ListN.{length, take}
 use lib.Seq.{length-take-le}
 use mir.Syntax.{w32}
 use mir.Val.{Fits}
@@ -14,11 +15,10 @@ use Rattle.prefix.specs.Addresses.{addressBits}
 use Rattle.prefix.specs.declared.Address.{Address}
 use Rattle.prefix.proofs.Common.{common-sym, common-le}
 use Rattle.prefix.proofs.AddressLaws.{length-address, common-32}
-use Rattle.trie.specs.Trie.{Kid}
-use Rattle.trie.specs.Walk.{lengthAt, lengthFrom}
-use Rattle.nodes.specs.Layout.{nodeWord, cellWord, word, nodesOf, trieOf, numbered}
-use Rattle.nodes.proofs.Coding.{numbered-node, none-numbered, cell-side}
-use Rattle.nodes.proofs.Spelling.{child-word}
+use Rattle.trie.specs.Trie.{Kid, Trie}
+use Rattle.trie.specs.Walk.{lengthAt, lengthFrom, taken, insideAt}
+use Rattle.nodes.specs.Layout.{nodeWord, word, nodesOf, trieOf, numbered}
+use Rattle.nodes.proofs.Coding.{numbered-node, none-numbered}
 use Rattle.table.specs.Tables.{ipv4Bits}
 use Rattle.table.proofs.Reading.{own-length, node-bits}
 use Rattle.search.specs.Looks.{lengthBelow, Length}
@@ -36,6 +36,16 @@ module _ (x q : Address) (own r : ℕ) (short : own ≤ 32) (is : r ≡ common (
 
   pub past-fits : Fits w32 (1 + r)
   past-fits = omega (arith, few)
+
+-- the node's own length, and one more if it has a child
+length-below : (v : Trie) (i : ℕ) → lengthBelow v i ≡ cond (insideAt v i) (suc (length (v .prefix i))) (length (v .prefix i))
+unfolding lengthAt insideAt taken
+length-below v i = go (v .child (Kid i false)) (v .child (Kid i true))
+  where
+    go : (x y : Option ℕ) → lengthAt v i x y ≡ cond (taken x || taken y) (suc (length (v .prefix i))) (length (v .prefix i))
+    go (some l) y = refl
+    go none (some r) = refl
+    go none none = refl
 
 module _ (w : List ℕ) (p : ℕ) (pos : 0 < p) (in-use : p ≤ nodesOf w) (own : ℕ) (is-own : own ≡ word w (nodeWord p 1)) where
   -- no node of a sound table is longer than an address
@@ -55,26 +65,12 @@ module _ (w : List ℕ) (p : ℕ) (pos : 0 < p) (in-use : p ≤ nodesOf w) (own 
 
     -- ---- the last node
 
-    module _ (l : ℕ) (is-left : l ≡ word w (cellWord (2 * p))) where
-      left : numbered l ≡ trieOf w .child (Kid (p - 1) false)
-      left = let e : 2 * p ≡ 2 * p + 0 = omega arith in
-          ap numbered is-left ∙ child-word w (2 * p) (λ z. omega arith) ∙ rw e (ap (trieOf w .child) (cell-side p 0 pos (omega arith)))
+    module _ (b : Bool) (is-child : b ≡ insideAt (trieOf w) (p - 1)) where
+      pub end-node : b ≡ true → Length w (lengthBelow (trieOf w) (p - 1)) (own + 1)
+      end-node t = record { small = omega arith; right = λ S. rw (length-below (trieOf w) (p - 1), ← is-child, t) (omega (arith, own-length w p pos own is-own short)) }
 
-      pub end-left : ¬ (l ≡ 0) → Length w (lengthBelow (trieOf w) (p - 1)) (own + 1)
-      unfolding lengthAt
-      end-left n = record { small = omega arith; right = λ S. rw (← left, numbered-node l (omega arith)) (omega (arith, own-length w p pos own is-own short)) }
-
-      module _ (no-left : l ≡ 0) (r : ℕ) (is-right : r ≡ word w (cellWord (2 * p + 1))) where
-        right-is : numbered r ≡ trieOf w .child (Kid (p - 1) true)
-        right-is = ap numbered is-right ∙ child-word w (2 * p + 1) (λ z. omega arith) ∙ ap (trieOf w .child) (cell-side p 1 pos (omega arith))
-
-        pub end-right : ¬ (r ≡ 0) → Length w (lengthBelow (trieOf w) (p - 1)) (own + 1)
-        unfolding lengthAt
-        end-right n = record { small = omega arith; right = λ S. rw (← left, ← right-is, no-left, none-numbered, numbered-node r (omega arith)) (omega (arith, own-length w p pos own is-own short)) }
-
-        pub end-leaf : r ≡ 0 → Length w (lengthBelow (trieOf w) (p - 1)) own
-        unfolding lengthAt
-        end-leaf z = record { small = omega arith; right = λ S. rw (← left, ← right-is, no-left, z, none-numbered) (sym (own-length w p pos own is-own short)) }
+      pub end-leaf : b ≡ false → Length w (lengthBelow (trieOf w) (p - 1)) own
+      end-leaf f = record { small = omega arith; right = λ S. rw (length-below (trieOf w) (p - 1), ← is-child, f) (sym (own-length w p pos own is-own short)) }
 
 -- ---- which of the two it is
 

@@ -7,7 +7,7 @@ ghost use Prim.Native.Nat.{suc, _-_, _≤_, _<_};
 ghost use lib.ListN.{take};
 ghost use Rattle.prefix.specs.Prefix.{common};
 ghost use Rattle.trie.specs.Walk.{lengthFrom, insideAt, insideBeyond, insideFrom};
-ghost use Rattle.nodes.specs.Layout.{nodeWord, word, nodesOf, trieOf, numbered, Shaped, Room};
+ghost use Rattle.nodes.specs.Layout.{nodeWord, word, nodesOf, trieOf, numbered, Shaped};
 ghost use Rattle.table.specs.Tables.{SoundTable, ipv4Bits};
 ghost use Rattle.table.specs.Stops.{Stopped, stopOf};
 ghost use Rattle.search.specs.Matches.{Matched};
@@ -66,7 +66,8 @@ fn answer_at(store: &[u32], x: Address, stop: Stop) -> Answer
 
 // Node p as a match.
 fn matched(store: &[u32], p: u32) -> Found
-    requires { ⌜ (Room (now store) p) × (0 < p) ⌝ }
+    requires { ⌜ Shaped (now store) ⌝ }
+    requires { ⌜ (0 < p) × (p ≤ nodesOf (now store)) ⌝ }
     ensures { λ r. ⌜ r ≡ foundAt (trieOf (now (store .entry)) .hop (p - 1)) (word (now (store .entry)) (nodeWord p 1)) ⌝ }
 {
     let mark = nodes::mark_of(store, p);
@@ -117,13 +118,22 @@ fn at_end(store: &[u32], p: u32) -> u32
     if 32 < own {
         return 0;
     }
-    if nodes::child_of(store, 2 * p) != 0 {
-        return own + 1;
-    }
-    if nodes::child_of(store, 2 * p + 1) != 0 {
+    if has_child(store, p) {
         return own + 1;
     }
     own
+}
+
+// Whether node p has nodes below it.
+fn has_child(store: &[u32], p: u32) -> bool
+    requires { ⌜ Shaped (now store) ⌝ }
+    requires { ⌜ (0 < p) × (p ≤ nodesOf (now store)) ⌝ }
+    ensures { λ r. ⌜ r ≡ insideAt (trieOf (now (store .entry))) (p - 1) ⌝ }
+{
+    if nodes::child_of(store, 2 * p) != 0 {
+        return true;
+    }
+    nodes::child_of(store, 2 * p + 1) != 0
 }
 
 // ---- a prefix
@@ -183,11 +193,12 @@ fn inside_at(store: &[u32], a: Address, n: u32, stop: Stop) -> bool
     ensures { λ r. ⌜ Tells (now (store .entry)) (insideFrom (trieOf (now (store .entry))) (take n (ipv4Bits a)) (stopOf stop)) r ⌝ }
 {
     let last = stop.last;
+    let next = stop.beyond;
     if last == 0 {
-        return lies_inside(store, stop.beyond, a, n);
+        return lies_inside(store, next, a, n);
     }
     if nodes::length_of(store, last) != n {
-        return lies_inside(store, stop.beyond, a, n);
+        return lies_inside(store, next, a, n);
     }
     has_child(store, last)
 }
@@ -205,16 +216,4 @@ fn lies_inside(store: &[u32], p: u32, a: Address, n: u32) -> bool
         return false;
     }
     prefix::covers_high(a, n, nodes::address_of(store, p))
-}
-
-// Whether node p has nodes below it.
-fn has_child(store: &[u32], p: u32) -> bool
-    requires { ⌜ Shaped (now store) ⌝ }
-    requires { ⌜ (0 < p) × (p ≤ nodesOf (now store)) ⌝ }
-    ensures { λ r. ⌜ r ≡ insideAt (trieOf (now (store .entry))) (p - 1) ⌝ }
-{
-    if nodes::child_of(store, 2 * p) != 0 {
-        return true;
-    }
-    nodes::child_of(store, 2 * p + 1) != 0
 }

@@ -19,7 +19,7 @@ use Rattle.trie.specs.Trie.{Cell, Kid}
 use Rattle.trie.specs.Walk.{follow, better}
 use Rattle.trie.proofs.Walking.{follow-bit, follow-none, long-out}
 use Rattle.nodes.specs.Layout.{nodeWord, cellWord, word, trieOf, numbered}
-use Rattle.nodes.proofs.Coding.{digit-below, none-numbered, some-numbered, cell-side}
+use Rattle.nodes.proofs.Coding.{digit-below, none-numbered, numbered-node, cell-side}
 use Rattle.nodes.proofs.Spelling.{prefix-words, hop-word, child-word}
 use Rattle.table.specs.Tables.{ipv4Bits}
 use Rattle.table.specs.Turns.{Tested, Chosen}
@@ -32,7 +32,7 @@ length-ipv4 a = length-take-le 32 (addressBits a) (omega (arith, length-address 
 pub length-sought : (a : Address) (n : ℕ) → n ≤ 32 → length (take n (ipv4Bits a)) ≡ n
 length-sought a n h = length-take-le n (ipv4Bits a) (omega (arith, length-ipv4 a))
 
-bit-digit : (b : Bool) → one? (digit b) ≡ b
+pub bit-digit : (b : Bool) → one? (digit b) ≡ b
 bit-digit false = refl
 bit-digit true = refl
 
@@ -92,17 +92,15 @@ module _ (w : List ℕ) (p : ℕ) (pos : 0 < p) (own : ℕ) (is-own : own ≡ wo
 
 -- ---- whether it is a route
 
-module _ (w : List ℕ) (p best mark : ℕ) (pos : 0 < p) (is-mark : mark ≡ word w (nodeWord p 2)) where
-  hop-is : trieOf w .hop (p - 1) ≡ numbered mark
-  hop-is = sym (ap numbered is-mark ∙ hop-word w p pos)
+module _ (w : List ℕ) (p mark : ℕ) (pos : 0 < p) (is-mark : mark ≡ word w (nodeWord p 2)) where
+  pub mark-hop : trieOf w .hop (p - 1) ≡ numbered mark
+  mark-hop = sym (ap numbered is-mark ∙ hop-word w p pos)
 
-  pub better-route : ¬ (mark ≡ 0) → Chosen w p best p
-  unfolding better
-  better-route n = record {
-    among = λ m x y. x;
-    route = rw (hop-is, some-numbered mark (mark - 1) (omega arith)) (some-numbered p (p - 1) (omega arith));
-  }
+  module _ (best : ℕ) where
+    pub better-route : ¬ (mark ≡ 0) → Chosen w p best p
+    unfolding better
+    better-route n = record { among = λ m x y. x; route = rw (mark-hop, numbered-node mark (omega arith)) (numbered-node p pos) }
 
-  pub better-branch : mark ≡ 0 → Chosen w p best best
-  unfolding better
-  better-branch z = record { among = λ m x y. y; route = rw (hop-is, z, none-numbered) }
+    pub better-branch : mark ≡ 0 → Chosen w p best best
+    unfolding better
+    better-branch z = record { among = λ m x y. y; route = rw (mark-hop, z, none-numbered) }

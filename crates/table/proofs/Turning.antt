@@ -14,7 +14,7 @@ use Rattle.trie.specs.Trie.{Dense}
 use Rattle.trie.specs.Walk.{follow}
 use Rattle.trie.proofs.Walking.{Walking, walking-start, walking-off, walking-parted, walking-on}
 use Rattle.nodes.specs.Layout.{word, cellWord, nodesOf, trieOf, numbered}
-use Rattle.nodes.proofs.Coding.{numbered-some, some-numbered, none-numbered, cell-root}
+use Rattle.nodes.proofs.Coding.{numbered-some, numbered-node, none-numbered, cell-root}
 use Rattle.nodes.proofs.Spelling.{child-word}
 use Rattle.table.specs.Tables.{ipv4Bits, SoundTable}
 use Rattle.table.specs.Stops.{Stopped}
@@ -64,7 +64,7 @@ module _ (w : List ℕ) (a : Address) (n : ℕ) (short : n ≤ 32) (k : Walk) (g
     inside = omega arith
 
     here : numbered (k .at) ≡ some (k .at - 1)
-    here = some-numbered (k .at) (k .at - 1) (omega arith)
+    here = numbered-node (k .at) (omega arith)
 
     there : SoundTable w → Walking (Dense (nodesOf w)) (trieOf w) X (some (k .at - 1)) (numbered (k .last)) (numbered (k .best)) (k .examined)
     there S = rw here at (g .way S)

@@ -11,13 +11,14 @@ use nodes::Shape;
 use prefix::Address;
 use sizes::Setup;
 ghost use mathlib.Core.Path.{_≡_};
-ghost use Prim.Native.Nat.{_-_, _≤_, _<_};
+ghost use Prim.Native.Nat.{_+_, _-_, _/_, _≤_, _<_};
 ghost use lib.ListN.{take};
 ghost use Rattle.trie.specs.Walk.{follow};
-ghost use Rattle.nodes.specs.Layout.{nodeWord, word, nodesOf, trieOf, numbered, Shaped, Room};
+ghost use Rattle.nodes.specs.Layout.{nodeWord, cellWord, word, nodesOf, trieOf, numbered, Shaped};
 ghost use Rattle.table.specs.Tables.{ipv4Bits, TableSetUp, TableChecked};
 ghost use Rattle.table.specs.Stops.{Stopped};
 ghost use Rattle.table.specs.Turns.{Going, Turned, offOf, Tested, Chosen};
+ghost use Rattle.table.specs.Checks.{Verdict, Decides, GoesOn, CellFine, HasCell, Marked, NodeFine, Passed};
 
 // An empty table, where the store is large enough for the limit.
 pub fn set_up(store: &mut [u32], limit: u32) -> Setup
@@ -97,7 +98,8 @@ fn off(w: Walk) -> Stop
 
 // Whether node p, of the length own, contains the first n bits of a.
 fn holds(store: &[u32], p: u32, own: u32, a: Address, n: u32) -> bool
-    requires { ⌜ (Room (now store) p) × (0 < p) × (n ≤ 32) ⌝ }
+    requires { ⌜ Shaped (now store) ⌝ }
+    requires { ⌜ (0 < p) × (p ≤ nodesOf (now store)) × (n ≤ 32) ⌝ }
     requires { ⌜ own ≡ word (now store) (nodeWord p 1) ⌝ }
     ensures { λ r. ⌜ Tested (now (store .entry)) (ipv4Bits a) n p r ⌝ }
 {
@@ -109,7 +111,8 @@ fn holds(store: &[u32], p: u32, own: u32, a: Address, n: u32) -> bool
 
 // The node below node p, of the length own, on the side of a's next bit, if n bits of a are longer than the node.
 fn below(store: &[u32], p: u32, own: u32, a: Address, n: u32) -> u32
-    requires { ⌜ (Room (now store) p) × (0 < p) × (p ≤ 2097152) × (n ≤ 32) ⌝ }
+    requires { ⌜ Shaped (now store) ⌝ }
+    requires { ⌜ (0 < p) × (p ≤ nodesOf (now store)) × (n ≤ 32) ⌝ }
     requires { ⌜ own ≡ word (now store) (nodeWord p 1) ⌝ }
     ensures { λ r. ⌜ numbered r ≡ follow (trieOf (now (store .entry))) (take n (ipv4Bits a)) (p - 1) ⌝ }
 {
@@ -122,7 +125,8 @@ fn below(store: &[u32], p: u32, own: u32, a: Address, n: u32) -> u32
 
 // Node p if it is a route, else the best before it.
 fn better(store: &[u32], p: u32, best: u32) -> u32
-    requires { ⌜ (Room (now store) p) × (0 < p) ⌝ }
+    requires { ⌜ Shaped (now store) ⌝ }
+    requires { ⌜ (0 < p) × (p ≤ nodesOf (now store)) ⌝ }
     ensures { λ r. ⌜ Chosen (now (store .entry)) p best r ⌝ }
 {
     if nodes::mark_of(store, p) != 0 {
@@ -155,4 +159,141 @@ pub fn descend(store: &[u32], nodes: u32, a: Address, n: u32) -> Stop
         }
     };
     stop
+}
+
+// ---- the check: one look at each node
+
+// Whether the store is a sound table.
+pub fn check(store: &[u32]) -> bool
+    ensures { λ r. ⌜ TableChecked (now (store .entry)) r ⌝ }
+{
+    let Shape::Fits(h) = nodes::read_header(store) else {
+        return false;
+    };
+    let nodes = h.nodes;
+    if !child_ok(store, nodes, 0) {
+        return false;
+    }
+    let mut routes: u32 = 0;
+    let mut p: u32 = 1;
+    while p <= nodes {
+        if !node_ok(store, nodes, p) {
+            return false;
+        }
+        routes = counted(store, p, routes);
+        p += 1;
+    }
+    routes == h.routes
+}
+
+// The routes below node p, and one more if it is a route.
+fn counted(store: &[u32], p: u32, routes: u32) -> u32
+    requires { ⌜ Shaped (now store) ⌝ }
+    requires { ⌜ (p ≤ nodesOf (now store)) × (NodeFine (now store) p) ⌝ }
+    requires { ⌜ Passed (now store) p routes ⌝ }
+    ensures { λ r. ⌜ Passed (now (store .entry)) (p + 1) r ⌝ }
+{
+    if nodes::mark_of(store, p) != 0 {
+        routes + 1
+    } else {
+        routes
+    }
+}
+
+// Whether node p is as it should be: its length, its mark, the cell that points at it, and its own two cells.
+fn node_ok(store: &[u32], nodes: u32, p: u32) -> bool
+    requires { ⌜ Shaped (now store) ⌝ }
+    requires { ⌜ (nodes ≡ nodesOf (now store)) × (0 < p) × (p ≤ nodes) ⌝ }
+    ensures { λ r. ⌜ Verdict (now (store .entry)) (NodeFine (now (store .entry)) p) r ⌝ }
+{
+    let node = nodes::node_at(store, p);
+    if 32 < node.length {
+        return false;
+    }
+    if !mark_ok(node) {
+        return false;
+    }
+    if !owned(store, nodes, p, node.up) {
+        return false;
+    }
+    if !child_ok(store, nodes, 2 * p) {
+        return false;
+    }
+    child_ok(store, nodes, 2 * p + 1)
+}
+
+// Whether a branch has two nodes below it, and a hop is 1 to 65,535.
+fn mark_ok(node: Node) -> bool
+    ensures { λ r. ⌜ Decides (Marked node) r ⌝ }
+{
+    if node.mark == 0 {
+        if node.left == 0 {
+            return false;
+        }
+        return node.right != 0;
+    }
+    if node.mark < 2 {
+        return false;
+    }
+    node.mark <= 65536
+}
+
+// Whether node p's cell is one that there is, and points at the node.
+fn owned(store: &[u32], nodes: u32, p: u32, cell: u32) -> bool
+    requires { ⌜ Shaped (now store) ⌝ }
+    requires { ⌜ (nodes ≡ nodesOf (now store)) × (0 < p) × (p ≤ nodes) ⌝ }
+    requires { ⌜ cell ≡ word (now store) (nodeWord p 5) ⌝ }
+    ensures { λ r. ⌜ Verdict (now (store .entry)) (HasCell (now (store .entry)) p) r ⌝ }
+{
+    if cell == 1 {
+        return false;
+    }
+    if nodes < cell / 2 {
+        return false;
+    }
+    nodes::child_of(store, cell) == p
+}
+
+// Whether what a cell points at, if anything, points back, and goes on from the cell's own prefix by its side.
+fn child_ok(store: &[u32], nodes: u32, cell: u32) -> bool
+    requires { ⌜ Shaped (now store) ⌝ }
+    requires { ⌜ (nodes ≡ nodesOf (now store)) × (¬ (cell ≡ 1)) × (cell / 2 ≤ nodes) ⌝ }
+    ensures { λ r. ⌜ Verdict (now (store .entry)) (CellFine (now (store .entry)) cell) r ⌝ }
+{
+    let p = nodes::child_of(store, cell);
+    if p == 0 {
+        return true;
+    }
+    if nodes < p {
+        return false;
+    }
+    if nodes::up_of(store, p) != cell {
+        return false;
+    }
+    if cell == 0 {
+        return true;
+    }
+    goes_on(store, cell, p)
+}
+
+// Whether node p, at which a node's cell points, goes on from that node by the cell's side.
+fn goes_on(store: &[u32], cell: u32, p: u32) -> bool
+    requires { ⌜ Shaped (now store) ⌝ }
+    requires { ⌜ (2 ≤ cell) × (cell / 2 ≤ nodesOf (now store)) × (0 < p) × (p ≤ nodesOf (now store)) ⌝ }
+    requires { ⌜ p ≡ word (now store) (cellWord cell) ⌝ }
+    ensures { λ r. ⌜ Verdict (now (store .entry)) (GoesOn (now (store .entry)) cell p) r ⌝ }
+{
+    let n = nodes::length_of(store, cell / 2);
+    let own = nodes::length_of(store, p);
+    if own <= n {
+        return false;
+    }
+    if 32 < own {
+        return false;
+    }
+    let a = nodes::address_of(store, p);
+    if prefix::bit_at_high(a, n) != cell % 2 {
+        return false;
+    }
+    prefix::covers_high(nodes::address_of(store, cell / 2), n, a)
 }

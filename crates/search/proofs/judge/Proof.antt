@@ -1,6 +1,6 @@
 -- `search::judge` meets its contract. Assumes nothing.
+use Rattle.table.proofs.Shapes.{shape-fits, shape-nodes}
 use Rattle.search.proofs.Standings.{judged-long, judged-broken, judged-short}
-use Rattle.search.proofs.Answers.{shape-fits, shape-nodes}
 use borrow.Author.Needs.{needs}
 use Rattle.search.proofs.judge.Statement.{statement}
 use Rattle.search.proofs.judge.Tie as tie

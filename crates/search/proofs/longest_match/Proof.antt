@@ -1,5 +1,6 @@
 -- `search::longest_match` meets its contract. Assumes nothing.
-use Rattle.search.proofs.Answers.{broken-sound, shape-fits, shape-nodes}
+use Rattle.table.proofs.Shapes.{shape-fits, shape-nodes}
+use Rattle.search.proofs.Answers.{broken-sound}
 use borrow.Author.Needs.{needs}
 use Rattle.search.proofs.longest_match.Statement.{statement}
 use Rattle.search.proofs.longest_match.Tie as tie
