@@ -129,11 +129,11 @@ fn better(store: &[u32], p: u32, best: u32) -> u32
     requires { ⌜ (0 < p) × (p ≤ nodesOf (now store)) ⌝ }
     ensures { λ r. ⌜ Chosen (now (store .entry)) p best r ⌝ }
 {
-    if nodes::mark_of(store, p) != 0 {
-        p
-    } else {
-        best
+    let mark = nodes::mark_of(store, p);
+    if mark == 0 {
+        return best;
     }
+    p
 }
 
 // From the root by the first n bits of a.
@@ -267,7 +267,8 @@ fn child_ok(store: &[u32], nodes: u32, cell: u32) -> bool
     if nodes < p {
         return false;
     }
-    if nodes::up_of(store, p) != cell {
+    let up = nodes::up_of(store, p);
+    if up != cell {
         return false;
     }
     if cell == 0 {

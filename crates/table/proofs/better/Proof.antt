@@ -8,10 +8,10 @@ mark-of-requires : tie.Need-mark-of-requires
 mark-of-requires c κs = search needs
 
 returns : tie.Need-returns
-returns c = search (needs, better-route)
+returns c = search (needs, better-branch)
 
 returns-2 : tie.Need-returns-2
-returns-2 c = search (needs, better-branch)
+returns-2 c = search (needs, better-route)
 
 pub better-spec : {M : Type 1} → statement M
 better-spec = tie.close (tie.spec mark-of-requires returns returns-2)
