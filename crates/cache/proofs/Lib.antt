@@ -1,0 +1,12 @@
+pub mod Changing
+pub mod Lows
+pub mod Ordering
+pub mod Fresh
+pub mod HopLaws
+pub mod EntryLaws
+pub mod WalkLaws
+pub mod FindLaws
+pub mod HangLaws
+pub mod InsertLaws
+pub mod Moving
+pub mod Closing

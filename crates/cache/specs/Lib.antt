@@ -1,0 +1,5 @@
+pub mod Caches
+pub mod Changed
+pub mod Walks
+pub mod Hangs
+pub mod Removal
