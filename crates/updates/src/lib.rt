@@ -1,0 +1,75 @@
+// Announcements and withdrawals in the table. An update record goes by value through the checks and into the store.
+use prefix::Address;
+ghost use mathlib.Core.Path.{_≡_};
+ghost use Rattle.updates.specs.Updates.{TableUpdated, verdictNumber};
+
+mod announce;
+mod closing;
+mod growing;
+mod withdraw;
+
+pub struct Prefix {
+    pub address: Address,
+    pub length: u32,
+}
+
+pub enum Action {
+    Announce(u32),
+    Withdraw,
+}
+
+pub struct Update {
+    pub prefix: Prefix,
+    pub action: Action,
+}
+
+pub enum Verdict {
+    Done,
+    // a length is above 32
+    TooLong,
+    // a hop is 0 or above 65,535
+    BadHop,
+    // a new prefix, and the table holds its limit of routes
+    Full,
+    // the route to withdraw is not held
+    NotHeld,
+    // only on a store that is not sound
+    Unsound,
+}
+
+// The number of a verdict: 0, 1, 2, 3, 4 or 9.
+pub fn verdict_number(v: Verdict) -> u32
+    ensures { λ r. ⌜ r ≡ verdictNumber v ⌝ }
+{
+    match v {
+        Verdict::Done => 0,
+        Verdict::TooLong => 1,
+        Verdict::BadHop => 2,
+        Verdict::Full => 3,
+        Verdict::NotHeld => 4,
+        Verdict::Unsound => 9,
+    }
+}
+
+// Refused, with every word as it was, or done in the table.
+pub fn update_table(store: &mut [u32], u: Update) -> Verdict
+    ensures { λ r. ⌜ TableUpdated (now (store .entry)) (now (store .exit)) u r ⌝ }
+{
+    let p = u.prefix;
+    let action = u.action;
+    if 32 < p.length {
+        return Verdict::TooLong;
+    }
+    match action {
+        Action::Announce(hop) => {
+            if hop == 0 {
+                return Verdict::BadHop;
+            }
+            if 65535 < hop {
+                return Verdict::BadHop;
+            }
+            announce::announce(store, p.address, p.length, hop)
+        }
+        Action::Withdraw => withdraw::withdraw(store, p.address, p.length),
+    }
+}
