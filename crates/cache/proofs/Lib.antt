@@ -10,3 +10,7 @@ pub mod HangLaws
 pub mod InsertLaws
 pub mod Moving
 pub mod Closing
+pub mod NodeChecks
+pub mod SlotChecks
+pub mod RingChecks
+pub mod EntryChecks

@@ -3,3 +3,4 @@ pub mod Changed
 pub mod Walks
 pub mod Hangs
 pub mod Removal
+pub mod Checks

@@ -7,6 +7,7 @@ ghost use Prim.Native.Nat.{_≤_};
 ghost use Rattle.slots.specs.Layout.{entriesHeld, Shaped};
 ghost use Rattle.cache.specs.Caches.{Slot, SoundEntries, Kept, Rehops, CacheSetUp};
 
+pub mod check;
 pub mod find;
 pub mod insert;
 pub mod order;
