@@ -43,7 +43,7 @@ fn announce_below(store: &mut [u32], h: Header, stop: Stop, a: Address, n: u32, 
     add(store, h, 2 * last + side, stop.beyond, a, n, hop)
 }
 
-// The prefix has its node: a route takes the hop, and a branch becomes a route.
+// The prefix has its node: a route takes the hop, and a branch becomes a route, if there is room.
 fn renew(store: &mut [u32], h: Header, p: u32, hop: u32) -> Verdict
     requires { ⌜ NodeAt (now store) h p × Hop hop ⌝ }
     ensures { λ r. ⌜ Answered (now (store .entry)) (now (store .exit)) 0 (announcementAt (now (store .entry)) p hop) r ⌝ }
@@ -52,12 +52,12 @@ fn renew(store: &mut [u32], h: Header, p: u32, hop: u32) -> Verdict
         nodes::set_mark(store, p, hop + 1);
         return Verdict::Done;
     }
-    if h.limit <= h.routes {
-        return Verdict::Full;
+    if h.routes < h.limit {
+        nodes::set_mark(store, p, hop + 1);
+        nodes::set_counts(store, h.nodes, h.routes + 1);
+        return Verdict::Done;
     }
-    nodes::set_mark(store, p, hop + 1);
-    nodes::set_counts(store, h.nodes, h.routes + 1);
-    Verdict::Done
+    Verdict::Full
 }
 
 // The prefix has no node and belongs in the cell, where node p hangs, or none.

@@ -1,5 +1,5 @@
 -- `updates::announce::renew` meets its contract. Assumes nothing.
-use Rattle.updates.proofs.Announcements.{at-route, at-branch-full, at-branch}
+use Rattle.updates.proofs.Announcements.{at-route, at-branch, at-branch-full}
 use borrow.Author.Needs.{needs}
 use Rattle.updates.proofs.announce.renew.Statement.{statement}
 use Rattle.updates.proofs.announce.renew.Tie as tie
@@ -19,12 +19,6 @@ same-length c = search needs
 returns : tie.Need-returns
 returns c = search (needs, at-route)
 
-same-length-2 : tie.Need-same-length-2
-same-length-2 c = search needs
-
-returns-2 : tie.Need-returns-2
-returns-2 c = search (needs, at-branch-full)
-
 add-set-mark-2 : tie.Need-add-set-mark-2
 add-set-mark-2 c = search needs
 
@@ -37,11 +31,17 @@ add-set-counts c = search needs
 set-counts-requires : tie.Need-set-counts-requires
 set-counts-requires c κs = search needs
 
+same-length-2 : tie.Need-same-length-2
+same-length-2 c = search needs
+
+returns-2 : tie.Need-returns-2
+returns-2 c = search (needs, at-branch)
+
 same-length-3 : tie.Need-same-length-3
 same-length-3 c = search needs
 
 returns-3 : tie.Need-returns-3
-returns-3 c = search (needs, at-branch)
+returns-3 c = search (needs, at-branch-full)
 
 pub renew-spec : {M : Type 1} → statement M
 renew-spec =
@@ -52,11 +52,11 @@ renew-spec =
     set-mark-requires
     same-length
     returns
-    same-length-2
-    returns-2
     add-set-mark-2
     set-mark-requires-2
     add-set-counts
     set-counts-requires
+    same-length-2
+    returns-2
     same-length-3
     returns-3)
