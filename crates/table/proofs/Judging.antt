@@ -87,21 +87,21 @@ module _ (w : List ℕ) (cell p nodes : ℕ) (are-nodes : nodes ≡ nodesOf w) (
         fine : Fits (trieOf w) (cellOf cell) (trieOf w .prefix (p - 1)) → CellFine w cell
         fine f = record { ok = rw (← points-at, numbered-node p (omega arith)) (record { is-live = omega arith; back = sym up-is ∙ ap cellOf back; fits = f }) }
 
-        pub cell-root-fine : cell ≡ 0 → Verdict w (CellFine w cell) true
-        cell-root-fine z = accept (fine (rw (z, cell-root) tt))
-
         pub cell-goes-on : (r : Bool) → Verdict w (GoesOn w cell p) r → Verdict w (CellFine w cell) r
         cell-goes-on r h = record { yes = λ e. fine (h .yes e .fits); no = h .no }
 
 -- ---- whether the node goes on from the cell's
 
-module _ (w : List ℕ) (cell p : ℕ) (kid : 2 ≤ cell) (in-cell : cell / 2 ≤ nodesOf w) (pos : 0 < p) (in-use : p ≤ nodesOf w) (is : p ≡ word w (cellWord cell))
+pub goes-root : (w : List ℕ) (cell p : ℕ) → cell ≡ 0 → Verdict w (GoesOn w cell p) true
+goes-root w cell p z = accept (record { fits = rw (z, cell-root) tt })
+
+module _ (w : List ℕ) (cell p : ℕ) (a-cell : ¬ (cell ≡ 1)) (some-cell : ¬ (cell ≡ 0)) (in-cell : cell / 2 ≤ nodesOf w) (pos : 0 < p) (in-use : p ≤ nodesOf w) (is : p ≡ word w (cellWord cell))
     (n own : ℕ) (is-n : n ≡ word w (nodeWord (cell / 2) 1)) (is-own : own ≡ word w (nodeWord p 1)) where
   abbrev Onward : Type 0
   Onward = Below (trieOf w .prefix (cell / 2 - 1)) (one? (cell % 2)) (trieOf w .prefix (p - 1))
 
   onward : SoundTable w → Onward
-  onward S = rw (kid-cell cell kid) at (pointed w cell p (nodesOf w) refl (λ z. omega arith) in-cell is S (λ z. omega arith) .fits)
+  onward S = rw (kid-cell cell (omega arith)) at (pointed w cell p (nodesOf w) refl a-cell in-cell is S (λ z. omega arith) .fits)
 
   pub goes-short : own ≤ n → Verdict w (GoesOn w cell p) false
   goes-short l = refuse (λ S. omega (
@@ -139,7 +139,7 @@ module _ (w : List ℕ) (cell p : ℕ) (kid : 2 ≤ cell) (in-cell : cell / 2 �
         goes-on = record {
           yes = λ e.
               let h = next-below (contains-⊑ _ _ (sym inside-is ∙ e)) (omega (arith, length-n, own-length w p pos own is-own short)) in
-              record { fits = rw (kid-cell cell kid) (rw (← side, same-side) at h) };
+              record { fits = rw (kid-cell cell (omega arith)) (rw (← side, same-side) at h) };
           no = λ e S. not-⊑ _ _ (sym inside-is ∙ e) (below-⊑ (onward S));
         }
 

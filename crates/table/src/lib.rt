@@ -268,22 +268,22 @@ fn child_ok(store: &[u32], nodes: u32, cell: u32) -> bool
         return false;
     }
     let up = nodes::up_of(store, p);
-    if up != cell {
-        return false;
+    if up == cell {
+        return goes_on(store, cell, p);
     }
-    if cell == 0 {
-        return true;
-    }
-    goes_on(store, cell, p)
+    false
 }
 
-// Whether node p, at which a node's cell points, goes on from that node by the cell's side.
+// Whether node p, at which a cell points, goes on from the cell's own prefix by its side. Any node does from the root cell.
 fn goes_on(store: &[u32], cell: u32, p: u32) -> bool
     requires { ⌜ Shaped (now store) ⌝ }
-    requires { ⌜ (2 ≤ cell) × (cell / 2 ≤ nodesOf (now store)) × (0 < p) × (p ≤ nodesOf (now store)) ⌝ }
+    requires { ⌜ (¬ (cell ≡ 1)) × (cell / 2 ≤ nodesOf (now store)) × (0 < p) × (p ≤ nodesOf (now store)) ⌝ }
     requires { ⌜ p ≡ word (now store) (cellWord cell) ⌝ }
     ensures { λ r. ⌜ Verdict (now (store .entry)) (GoesOn (now (store .entry)) cell p) r ⌝ }
 {
+    if cell == 0 {
+        return true;
+    }
     let n = nodes::length_of(store, cell / 2);
     let own = nodes::length_of(store, p);
     if own <= n {

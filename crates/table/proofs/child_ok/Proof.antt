@@ -1,5 +1,5 @@
 -- `table::child_ok` meets its contract. Assumes nothing.
-use Rattle.table.proofs.Judging.{cell-empty, cell-out, cell-back, cell-root-fine, cell-goes-on}
+use Rattle.table.proofs.Judging.{cell-empty, cell-out, cell-goes-on, cell-back}
 use borrow.Author.Needs.{needs}
 use Rattle.table.proofs.child_ok.Statement.{statement}
 use Rattle.table.proofs.child_ok.Tie as tie
@@ -16,17 +16,14 @@ returns-2 c = search (needs, cell-out)
 up-of-requires : tie.Need-up-of-requires
 up-of-requires c κs = search needs
 
-returns-3 : tie.Need-returns-3
-returns-3 c = search (needs, cell-back)
-
-returns-4 : tie.Need-returns-4
-returns-4 c = search (needs, cell-root-fine)
-
 goes-on-requires : tie.Need-goes-on-requires
 goes-on-requires c κs = search needs
 
-returns-5 : tie.Need-returns-5
-returns-5 c = search (needs, cell-goes-on)
+returns-3 : tie.Need-returns-3
+returns-3 c = search (needs, cell-goes-on)
+
+returns-4 : tie.Need-returns-4
+returns-4 c = search (needs, cell-back)
 
 pub child-ok-spec : {M : Type 1} → statement M
 child-ok-spec =
@@ -36,7 +33,6 @@ child-ok-spec =
     returns
     returns-2
     up-of-requires
-    returns-3
-    returns-4
     goes-on-requires
-    returns-5)
+    returns-3
+    returns-4)
