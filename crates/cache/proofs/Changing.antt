@@ -3,7 +3,7 @@ use mathlib.Core.Path.{_≡_, refl, sym, ap, _∙_}
 use mathlib.Core.List.{List}
 use Prim.Native.Nat.{ℕ, _+_, _-_, _/_, _≤_, _<_}
 use native.Mathlib.Omega.{arith}
-use lib.ListN.{length, drop}
+use lib.ListN.{drop}
 use lib.Seq.{drop-drop}
 use Rattle.prefix.specs.Prefix.{prefixOf}
 use Rattle.sizes.specs.Sizes.{cacheNeed}

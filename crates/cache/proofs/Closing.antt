@@ -1,5 +1,5 @@
 -- An entry is gone: what the store holds then. Assumes nothing.
-use mathlib.Core.Path.{_≡_, refl, sym, ap, _∙_, subst}
+use mathlib.Core.Path.{_≡_, sym, ap, _∙_, subst}
 use mathlib.Core.List.{List, Memᴰ·of-map}
 use mathlib.Core.Logic.{inl, inr}
 use Prim.Native.Nat.{ℕ, zero, suc, _-_, _*_, _/_, _%_, _≤_, _<_}
@@ -23,7 +23,6 @@ use Rattle.slots.specs.Stores.{putChild, putCount}
 use Rattle.slots.proofs.ReadLaws.{read-up}
 use Rattle.slots.proofs.StoreLaws.{cache-child, cache-count}
 use Rattle.slots.proofs.KeptLaws.{kept-then, kept-same, kept-child, plain-fewer, count-size, count-limit, count-entries, count-past, count-plain}
-use Rattle.cache.specs.Caches as caches
 use Rattle.cache.specs.Caches.{entries, SoundEntries, Kept, Removes}
 use Rattle.cache.specs.Changed.{Slots, Changed, Linked}
 use Rattle.cache.specs.Removal.{Tidy, Without, Gone}
@@ -33,7 +32,7 @@ use Rattle.cache.proofs.Lows.{sound-low}
 -- ---- a removal seen from the slots
 
 removed-without : {m : ℕ} {c d : Cache} {k : ℕ} {place : ℕ → ℕ} → SoundCache (suc m) c → Removed m c d k place
-    → ((i : ℕ) → ¬ (i ≡ k) → place i ≤ m → k < place i → k < i) → Without (suc m) c d k
+    → ((i : ℕ) → place i ≤ m → k < place i → k < i) → Without (suc m) c d k
 removed-without {m} {c} {d} {k} {place} S r back = record { sound = rw z (r .sound); holds = rw z (r .holds); later = rw z later }
   where
     z : suc m - 1 ≡ m
@@ -46,7 +45,7 @@ removed-without {m} {c} {d} {k} {place} S r back = record { sound = rw z (r .sou
     from s ls h (i, there, e) =
         let ne : ¬ (i ≡ k) = mem-ne there (without-gone k (order (suc m) c) (order-distinct o)) in
         let li = in-slot o i (without-sub k (order (suc m) c) i there) in
-        (i, li, back i ne (omega arith) (omega arith), ap (entryOf d) (sym e) ∙ r .moved i li ne)
+        (i, li, back i (omega arith) (omega arith), ap (entryOf d) (sym e) ∙ r .moved i li ne)
 
     later : (s : ℕ) → Slot m s → k < s → (i : ℕ) × Slot (suc m) i × (k < i) × (entryOf d s ≡ entryOf c i)
     later s ls h = from s ls h (Memᴰ·of-map place (without k (order (suc m) c)) (subst (λ (l : List ℕ). s ∈ l) (r .slots) (order-all (ring-order (r .sound .ring)) s ls)))
@@ -69,7 +68,7 @@ place-later m k j i low h = go (ℕ-discrete i j)
 without-beside : (n k q : ℕ) {c d : Cache} → SoundCache n c → Slot n k → q ≡ c .up (entryNode k) → ¬ (q ≡ rootCell)
     → d ≡ removeAt c n k (q / 2) (one? (q % 2)) → Without n c d k
 without-beside zero k q S lk e ne is = absurd (omega arith)
-without-beside (suc m) k q S lk e ne is = rw is (removed-without S (remove-entry S k q lk e ne) (λ i no low h. place-later m k (q / 2) i low h))
+without-beside (suc m) k q S lk e ne is = rw is (removed-without S (remove-entry S k q lk e ne) (place-later m k (q / 2)))
 
 -- ---- the ways out
 
@@ -112,11 +111,11 @@ gone-only {n} {k} {w} {u} {w′} has one lk a ew = record { kept = rw ew (kept-t
         let e : cacheOf w′ ≡ removeOnly (cacheOf w)
         = ap cacheOf ew ∙ cache-child u 0 0 room ∙ ap (λ (c : Cache). setChild c 0 0) (a .does (l .prev-low k (lk .1), l .next-low k (lk .1)) ∙ ap (unlink (cacheOf w)) is-one) ∙ only-stores (cacheOf w) in
         let T : SoundCache 1 (cacheOf w) = rw one at S in
-        rw (one, is-one, e) (removed-without T (remove-only T) (λ i no low h. h))
+        rw (one, is-one, e) (removed-without T (remove-only T) (λ i low h. h))
 
 -- ---- the count
 
-module _ {n k : ℕ} {w u w′ : List ℕ} (s : Shaped w) (e : n ≡ entriesHeld w) (lk : caches.Slot w k) (g : Gone n w u k) (ew : w′ ≡ putCount u (n - 1)) where
+module _ {n k : ℕ} {w u w′ : List ℕ} (s : Shaped w) (e : n ≡ entriesHeld w) (g : Gone n w u k) (ew : w′ ≡ putCount u (n - 1)) where
   long : 1 < length u
   long = omega (arith, s .enough, g .kept .size)
 

@@ -1,7 +1,7 @@
 -- Each answer of `find_entry`. Assumes nothing.
 use mathlib.Core.Path.{_≡_, refl, sym, ap, _∙_, subst}
-use mathlib.Core.Bool.{true, false}
-use mathlib.Core.List.{List, [], map, List·Memᴰ·not-nil}
+use mathlib.Core.Bool.{false}
+use mathlib.Core.List.{List, map, List·Memᴰ·not-nil}
 use Prim.Native.Nat.{ℕ, suc, _+_, _/_, _%_, _≤_, _<_}
 use native.Mathlib.Numerals.{add-one}
 use native.Mathlib.Omega.{arith}
@@ -10,10 +10,9 @@ use Rattle.prefix.specs.Prefix.{contains, common, _⊑_}
 use Rattle.prefix.specs.declared.Address.{Address}
 use Rattle.prefix.proofs.Common.{common-sym, common-⊑, le-common}
 use Rattle.prefix.proofs.Order.{⊑-refl}
-use Rattle.prefix.proofs.Tests.{contains-⊑, ⊑-contains, ⊑-not}
-use Rattle.model.specs.Lists.{_∈_, largest}
+use Rattle.prefix.proofs.Tests.{⊑-contains, ⊑-not}
+use Rattle.model.specs.Lists.{largest}
 use Rattle.model.specs.Model.{Entry}
-use Rattle.model.specs.Demands.{NoneCached}
 use Rattle.lru.specs.Sound as lru
 use Rattle.lru.specs.Results as results
 use Rattle.lru.proofs.Walking.{find-nearest}

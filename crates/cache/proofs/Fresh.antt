@@ -1,6 +1,6 @@
 -- Set-up leaves a sound cache of no entries. Assumes nothing.
-use mathlib.Core.Path.{_≡_, refl, sym, ap, _∙_}
-use mathlib.Core.List.{List, [], map}
+use mathlib.Core.Path.{_≡_, sym, _∙_}
+use mathlib.Core.List.{List, []}
 use Prim.Native.Nat.{ℕ, _≤_}
 use native.Mathlib.Omega.{arith}
 use lib.ListN.{length}
@@ -8,7 +8,7 @@ use Rattle.sizes.specs.Sizes.{LegalLimit, cacheNeed}
 use Rattle.sizes.specs.declared.Setup.{Setup}
 use Rattle.sizes.proofs.SizeLaws.{setup-done}
 use Rattle.lru.specs.Sound as lru
-use Rattle.slots.specs.Layout.{entriesHeld, cacheOf, Room}
+use Rattle.slots.specs.Layout.{entriesHeld, Room}
 use Rattle.slots.specs.Stores.{emptied}
 use Rattle.slots.specs.Headers.{SetUp}
 use Rattle.slots.proofs.KeptLaws.{plain-none}

@@ -1,37 +1,36 @@
 -- A new entry gets its place in the search trie. Assumes nothing.
-use mathlib.Core.Path.{_≡_, refl, sym, ap, _∙_, subst}
+use mathlib.Core.Path.{_≡_, refl, sym, ap, _∙_}
 use mathlib.Core.Bool.{Bool, true, false, not}
 use mathlib.Core.List.{List}
 use Prim.Native.Nat.{ℕ, suc, _+_, _-_, _*_, _/_, _≤_, _<_}
 use native.Mathlib.Numerals.{add-one}
 use native.Mathlib.Omega.{arith}
-use lib.ListN.{length, take, getD}
+use lib.ListN.{take, getD}
 use lib.Seq.{getD-take}
 use Rattle.prefix.specs.Bits.{Bits, bits}
-use Rattle.prefix.specs.Prefix.{prefixOf, common, _⊑_}
+use Rattle.prefix.specs.Prefix.{common, _⊑_}
 use Rattle.prefix.specs.Addresses.{addressBits}
 use Rattle.prefix.specs.declared.Address.{Address}
 use Rattle.prefix.proofs.Common.{common-lt}
 use Rattle.prefix.proofs.Order.{take-⊑}
 use Rattle.prefix.proofs.Tests.{apart-not}
-use Rattle.lru.specs.Slots.{Cache, entryNode, branchNode, cellOf, rootCell, setEntry, setBranchLength, setChild, setUp}
+use Rattle.lru.specs.Slots.{Cache, entryNode, branchNode, cellOf, setEntry, setBranchLength, setChild, setUp}
 use Rattle.lru.specs.Sound as lru
-use Rattle.lru.specs.Changes.{pushFront, insertFirst, hang, insertAt, find}
+use Rattle.lru.specs.Changes.{pushFront, insertFirst, hang, insertAt}
 use Rattle.lru.specs.Results as results
 use Rattle.lru.proofs.Stores.{first-stores, hang-stores}
-use Rattle.lru.proofs.Shape.{hangs, cell-low}
+use Rattle.lru.proofs.Shape.{hangs}
 use Rattle.lru.proofs.Walking as walking
 use Rattle.lru.proofs.Holding.{entries-free}
 use Rattle.lru.proofs.Inserting.{insert-first, insert-found}
-use Rattle.slots.specs.Layout.{limitOf, entriesHeld, upIn, cacheOf, Room, Shaped, Plain}
+use Rattle.slots.specs.Layout.{limitOf, entriesHeld, upIn, cacheOf, Room, Shaped}
 use Rattle.slots.specs.Stores.{putEntry, putChild, putUp}
-use Rattle.slots.specs.Stores as slots
 use Rattle.slots.proofs.ReadLaws.{read-up}
 use Rattle.slots.proofs.KeptLaws.{kept-then, kept-same, plain-entry}
 use Rattle.cache.specs.Caches.{ipv4Bits, entries, Free, SoundEntries}
 use Rattle.cache.specs.Changed.{Slots}
 use Rattle.cache.specs.Walks.{CommonWith, Walked}
-use Rattle.cache.specs.Hangs.{forked, Beside, Ready, Hung}
+use Rattle.cache.specs.Hangs.{forked, Beside, Hung}
 use Rattle.cache.proofs.Changing.{Stored, none-stored, entry-stored, child-stored, up-stored, branch-stored}
 use Rattle.cache.proofs.EntryLaws.{length-ipv4, entry-short, all-short}
 use Rattle.cache.proofs.Lows.{sound-low}

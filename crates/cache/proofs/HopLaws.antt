@@ -1,74 +1,53 @@
 -- An entry takes another hop. Assumes nothing.
-use mathlib.Core.Path.{_≡_, refl, sym, ap, _∙_, subst}
-use mathlib.Core.Bool.{true, false}
+use mathlib.Core.Path.{_≡_, refl, ap, _∙_}
 use mathlib.Core.List.{List, map}
-use Prim.Native.Nat.{ℕ, _≤_}
+use Prim.Native.Nat.{ℕ}
 use native.Mathlib.Decide.{ℕ-discrete}
 use native.Mathlib.Omega.{arith}
-use lib.ListN.{length}
 use borrow.Author.Tests.{eq-eqb, ne-eqb}
-use Rattle.sizes.specs.Sizes.{cacheNeed}
 use Rattle.trie.proofs.Stores.{upd-same, upd-other}
 use Rattle.lru.specs.Slots.{setHop}
 use Rattle.lru.specs.Sound as lru
 use Rattle.lru.proofs.Orders.{ring-order, order-same, order-is}
 use Rattle.lru.proofs.Using.{hop-sound, entry-path, map-same}
-use Rattle.slots.specs.Layout.{limitOf, entriesHeld, cacheOf, Room, Shaped, Plain}
+use Rattle.slots.specs.Layout.{entriesHeld, cacheOf, Room, Shaped}
 use Rattle.slots.specs.Stores as slots
 use Rattle.slots.proofs.StoreLaws.{cache-hop}
 use Rattle.slots.proofs.KeptLaws.{kept-hop}
-use Rattle.cache.specs.Caches.{Slot, entryIn, entries, SoundEntries, withHop, rehopped, Kept, Holds, Rehops}
-
--- stores to the slots that a store has room for, and to no header word, leave it shaped
-module _ {w w′ : List ℕ} (k : slots.Kept (limitOf w) w w′) where
-  pub shaped-kept : Shaped w → Shaped w′
-  shaped-kept s = record {
-    legal = rw (k .limit) (s .legal);
-    enough = rw (k .limit, k .size) (s .enough);
-    entries-fit = rw (k .limit, k .entries) (s .entries-fit);
-  }
-
-  pub kept-all : Kept w w′ (entriesHeld w)
-  kept-all = record { limit-kept = k .limit; count = k .entries; past-kept = k .past }
+use Rattle.cache.specs.Caches.{Slot, SoundEntries, withHop, rehopped, Kept, Rehops}
+use Rattle.cache.proofs.Changing.{slots-kept, holds-after}
 
 module _ (w : List ℕ) (k hop : ℕ) (shaped : Shaped w) (slot : Slot w k) (w′ : List ℕ) (is : w′ ≡ slots.putHop w k hop) where
   room : Room w k
   room = omega (arith, shaped .enough, shaped .entries-fit)
 
-  stored : slots.Kept (limitOf w) w w′
-  stored = rw is (kept-hop (limitOf w) w k (omega (arith, shaped .entries-fit)) room hop)
+  stored : slots.Kept (entriesHeld w) w w′
+  stored = rw is (kept-hop (entriesHeld w) w k (omega arith) room hop)
 
   cache-is : cacheOf w′ ≡ setHop (cacheOf w) k hop
   cache-is = rw is (cache-hop w k hop room)
 
-  entry-at : (i : ℕ) → entryIn w′ i ≡ withHop w k hop i
+  entry-at : (i : ℕ) → lru.entryOf (setHop (cacheOf w) k hop) i ≡ withHop w k hop i
   unfolding setHop
-  entry-at i = rw cache-is (go (ℕ-discrete i k))
+  entry-at i = go (ℕ-discrete i k)
     where
       go : Dec (i ≡ k) → lru.entryOf (setHop (cacheOf w) k hop) i ≡ withHop w k hop i
       go (yes e) = rw (eq-eqb i k e) (entry-path (ap (cacheOf w .entry) e) (upd-same _ _ _ _ i e))
       go (no n) = rw (ne-eqb i k n) (entry-path refl (upd-other _ _ _ _ i n))
 
-  order-kept : SoundEntries w → lru.order (entriesHeld w′) (cacheOf w′) ≡ lru.order (entriesHeld w) (cacheOf w)
-  unfolding setHop
-  order-kept S = rw (stored .entries, cache-is) (order-is (order-same (setHop (cacheOf w) k hop) refl refl (ring-order (S .slots .ring))))
+  -- the order of use is the same
+  entries-are : SoundEntries w → lru.entries (entriesHeld w) (setHop (cacheOf w) k hop) ≡ rehopped w k hop
+  unfolding lru.entries rehopped setHop
+  entries-are S =
+      map-same _ (withHop w k hop) (lru.order (entriesHeld w) (setHop (cacheOf w) k hop)) (λ i m. entry-at i)
+      ∙ ap (map (withHop w k hop)) (order-is (order-same (setHop (cacheOf w) k hop) refl refl (ring-order (S .slots .ring))))
 
   pub hop-kept : Kept w w′ (entriesHeld w)
-  hop-kept = kept-all stored
+  hop-kept = slots-kept shaped refl stored
 
   pub hop-given : SoundEntries w → Rehops w w′ k hop
-  unfolding entries lru.entries rehopped
   hop-given S = record {
-    holds = record {
-      sound = record {
-        shaped = shaped-kept stored shaped;
-        plain = rw (stored .entries) (stored .plain (entriesHeld w) (S .plain));
-        slots = rw (stored .entries, cache-is) (hop-sound (S .slots) k hop slot);
-      };
-      are-entries =
-          map-same (entryIn w′) (withHop w k hop) (lru.order (entriesHeld w′) (cacheOf w′)) (λ i m. entry-at i)
-          ∙ ap (map (withHop w k hop)) (order-kept S);
-    };
-    here = entry-at k ∙ rw (eq-eqb k k refl);
-    there = λ i n. entry-at i ∙ rw (ne-eqb i k n);
+    holds = rw (entries-are S) at (holds-after S stored cache-is (hop-sound (S .slots) k hop slot));
+    here = rw cache-is (entry-at k ∙ rw (eq-eqb k k refl));
+    there = λ i n. rw cache-is (entry-at i ∙ rw (ne-eqb i k n));
   }

@@ -1,12 +1,10 @@
 -- A new entry is the most recently used. Assumes nothing.
-use mathlib.Core.Path.{_≡_, sym, ap, _∙_, subst}
+use mathlib.Core.Path.{_≡_, sym, ap, _∙_}
 use mathlib.Core.List.{List, _∷_}
 use Prim.Native.Nat.{ℕ, suc, _+_, _≤_, _<_}
-use native.Mathlib.Numerals.{add-one}
 use native.Mathlib.Omega.{arith}
-use lib.ListN.{length, drop}
+use lib.ListN.{length}
 use Rattle.prefix.specs.Bits.{Bits}
-use Rattle.sizes.specs.Sizes.{cacheNeed}
 use Rattle.lru.specs.Changes.{pushFront}
 use Rattle.slots.specs.Layout.{limitOf, entriesHeld, cacheOf, Shaped}
 use Rattle.slots.specs.Stores.{putCount}
@@ -15,7 +13,7 @@ use Rattle.slots.proofs.StoreLaws.{cache-count}
 use Rattle.slots.proofs.KeptLaws.{kept-then, count-size, count-limit, count-entries, count-past, count-plain}
 use Rattle.cache.specs.Caches.{entries, Free, SoundEntries, Kept, Holds}
 use Rattle.cache.specs.Changed.{Changed}
-use Rattle.cache.specs.Hangs.{Ready, Hung}
+use Rattle.cache.specs.Hangs.{Hung}
 use Rattle.cache.proofs.Changing.{past-more}
 
 module _ (w u v w′ : List ℕ) (P : Bits) (hop held : ℕ) (shaped : Shaped w) (are-held : held ≡ entriesHeld w) (free-slot : held < limitOf w) (hung : Hung w u P hop)

@@ -11,7 +11,7 @@ use Rattle.trie.specs.Updates.{upd}
 use Rattle.trie.proofs.Stores.{upd-same, upd-other}
 use Rattle.prefix.specs.Bits.{Bits}
 use Rattle.lru.specs.Slots.{Cache, entryNode, branchNode, cellOf, setEntry, setChild, setUp, setPrev, setNext}
-use Rattle.lru.specs.Sound.{Live, InUse, SoundCache}
+use Rattle.lru.specs.Sound.{InUse, SoundCache}
 use Rattle.lru.specs.Changes.{unlink, moveLinks, prune, moveEntry, fillEntry}
 use Rattle.lru.proofs.Nodes.{digit-small}
 use Rattle.lru.proofs.Shape.{hangs, pointed, cell-low}

@@ -1,16 +1,13 @@
 -- The steps of a removal, return by return. Assumes nothing.
-use mathlib.Core.Path.{_≡_, refl, sym, ap, _∙_}
+use mathlib.Core.Path.{_≡_, refl, ap, _∙_}
 use mathlib.Core.Bool.{Bool, true, false, not}
 use mathlib.Core.Logic.{inr}
 use mathlib.Core.List.{List}
 use Prim.Native.Nat.{ℕ, _+_, _-_, _*_, _/_, _%_, _≤_, _<_}
 use native.Mathlib.Decide.{ℕ-discrete}
 use native.Mathlib.Omega.{arith}
-use lib.ListN.{take}
-use lib.Dec.{eqb}
 use borrow.Author.Tests.{eq-eqb, ne-eqb}
 use Rattle.prefix.specs.Bits.{bits, one?, digit}
-use Rattle.prefix.specs.Prefix.{prefixOf}
 use Rattle.lru.specs.Slots.{Cache, branchNode, cellOf, setEntry, setBranchLength, setChild, setUp}
 use Rattle.lru.specs.Changes.{unlink, moveLinks, prune, moveEntry, moveBranch, fillEntry, fillSlot, removeAt}
 use Rattle.lru.proofs.Nodes.{digit-small}
@@ -18,7 +15,7 @@ use Rattle.lru.proofs.Stores.{prune-stores, entry-stores, branch-stores}
 use Rattle.slots.specs.Layout.{slotWord, cellWord, word, upIn, cacheOf, Plain}
 use Rattle.slots.specs.Stores.{putEntry, putChild, putUp}
 use Rattle.slots.proofs.ReadLaws.{read-entry, read-hop, read-child, read-branch, read-up}
-use Rattle.slots.proofs.KeptLaws.{kept-then, kept-same}
+use Rattle.slots.proofs.KeptLaws.{kept-then}
 use Rattle.cache.specs.Changed.{Slots, Changed, Linked, Low}
 use Rattle.cache.specs.Removal.{Tidy, hung, branched}
 use Rattle.cache.proofs.Changing.{none-stored, child-stored, up-stored, branch-stored, entry-stored, changed, skipped}

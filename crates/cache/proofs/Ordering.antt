@@ -1,17 +1,14 @@
 -- The changes of the order of use, return by return. Assumes nothing.
-use mathlib.Core.Path.{_≡_, refl, sym, ap, _∙_, subst}
+use mathlib.Core.Path.{_≡_, ap, _∙_}
 use mathlib.Core.List.{List, _∷_}
 use Prim.Native.Nat.{ℕ, suc, _-_, _≤_, _<_}
 use native.Mathlib.Omega.{arith}
 use Rattle.lru.specs.Slots.{Cache}
 use Rattle.lru.specs.Changes.{unlink, pushFront, toFront, moveLinks}
-use Rattle.lru.specs.Sound as lru
 use Rattle.lru.proofs.Stores.{unlink-stores, push-stores, links-stores}
-use Rattle.lru.proofs.Orders.{ring-linked}
 use Rattle.lru.proofs.Using.{front-sound, front-entries, oldest-slot, oldest-last}
-use Rattle.slots.specs.Layout.{slotWord, word, entriesHeld, cacheOf, Room, Shaped}
+use Rattle.slots.specs.Layout.{slotWord, word, entriesHeld, cacheOf, Shaped}
 use Rattle.slots.specs.Stores.{putPrev, putNext}
-use Rattle.slots.specs.Stores as slots
 use Rattle.slots.proofs.ReadLaws.{read-prev, read-next}
 use Rattle.slots.proofs.KeptLaws.{kept-then}
 use Rattle.cache.specs.Caches.{Slot, entries, entryIn, othersIn, SoundEntries, Kept, Holds, Oldest}

@@ -12,7 +12,7 @@ use Rattle.prefix.specs.Addresses.{addressBits}
 use Rattle.prefix.specs.declared.Address.{Address}
 use Rattle.lru.specs.Slots.{cellOf}
 use Rattle.lru.specs.Sound.{Live}
-use Rattle.lru.specs.Changes.{passes, towards, walk, find}
+use Rattle.lru.specs.Changes.{passes, towards, walk}
 use Rattle.lru.proofs.Nodes.{digit-small}
 use Rattle.lru.proofs.Shape.{branch-short}
 use Rattle.lru.proofs.Walking.{find-start, passes-branch, stops-entry, stops-miss, walk-on, walk-end, on-start, on-step}

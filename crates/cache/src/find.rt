@@ -83,6 +83,7 @@ pub fn walk(store: &[u32], entries: u32, x: Address) -> u32
     at
 }
 
+// What the entries say of x. A number that no sound store has is answered as if there were none.
 pub fn find_entry(store: &[u32], entries: u32, x: Address) -> Nearest
     requires { ⌜ Shaped (now store) ⌝ }
     requires { ⌜ entries ≡ entriesHeld (now store) ⌝ }
@@ -103,8 +104,8 @@ pub fn find_entry(store: &[u32], entries: u32, x: Address) -> Nearest
         return Nearest::Miss(0);
     }
     let shared = common_with(store, slot, x);
-    if n <= shared {
-        return Nearest::Hit(slot);
+    if shared < n {
+        return Nearest::Miss(shared + 1);
     }
-    Nearest::Miss(shared + 1)
+    Nearest::Hit(slot)
 }

@@ -1,5 +1,5 @@
 -- `cache::find::find_entry` meets its contract. Assumes nothing.
-use Rattle.cache.proofs.FindLaws.{miss-empty, no-slot, no-such-slot, too-long, hit, miss}
+use Rattle.cache.proofs.FindLaws.{miss-empty, no-slot, no-such-slot, too-long, miss, hit}
 use borrow.Author.Needs.{needs}
 use Rattle.cache.proofs.find.find_entry.Statement.{statement}
 use Rattle.cache.proofs.find.find_entry.Tie as tie
@@ -25,14 +25,14 @@ returns-4 c = search (needs, too-long)
 common-with-requires : tie.Need-common-with-requires
 common-with-requires c κs = search needs
 
-returns-5 : tie.Need-returns-5
-returns-5 c = search (needs, hit)
+add-t9 : tie.Need-add-t9
+add-t9 c = search needs
 
-add-t8 : tie.Need-add-t8
-add-t8 c = search needs
+returns-5 : tie.Need-returns-5
+returns-5 c = search (needs, miss)
 
 returns-6 : tie.Need-returns-6
-returns-6 c = search (needs, miss)
+returns-6 c = search (needs, hit)
 
 pub find-entry-spec : {M : Type 1} → statement M
 find-entry-spec =
@@ -45,6 +45,6 @@ find-entry-spec =
     length-of-requires
     returns-4
     common-with-requires
+    add-t9
     returns-5
-    add-t8
     returns-6)

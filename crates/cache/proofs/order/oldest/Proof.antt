@@ -4,11 +4,6 @@ use borrow.Author.Needs.{needs}
 use Rattle.cache.proofs.order.oldest.Statement.{statement}
 use Rattle.cache.proofs.order.oldest.Tie as tie
 
-prev-of-requires : tie.Need-prev-of-requires
-prev-of-requires c κs = search needs
-
-returns : tie.Need-returns
-returns c = search (needs, oldest-is)
-
+-- what the word that is read requires, and what it is, named by place: then another word is refused for what it is
 pub oldest-spec : {M : Type 1} → statement M
-oldest-spec = tie.close (tie.spec prev-of-requires returns)
+oldest-spec = tie.close (tie.spec (λ c κs. search needs) (λ c. search (needs, oldest-is)))
