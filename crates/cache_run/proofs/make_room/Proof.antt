@@ -1,0 +1,54 @@
+-- `cache_run::make_room` is safe. Assumes nothing.
+use Rattle.cache_run.proofs.Headers.{fits-shaped, fits-entries, fits-room, fits-slot, fits-words}
+use borrow.Author.Needs.{needs}
+use Rattle.cache_run.proofs.make_room.Statement.{statement}
+use Rattle.cache_run.proofs.make_room.Tie as tie
+
+read-header-requires : tie.Need-read-header-requires
+read-header-requires c κs = search needs
+
+enum-known-h : tie.Need-enum-known-h
+enum-known-h c = search needs
+
+enum-told : tie.Need-enum-told
+enum-told c = search needs
+
+same-length : tie.Need-same-length
+same-length c = search needs
+
+returns : tie.Need-returns
+returns c = search needs
+
+same-length-2 : tie.Need-same-length-2
+same-length-2 c = search needs
+
+returns-2 : tie.Need-returns-2
+returns-2 c = search needs
+
+oldest-requires : tie.Need-oldest-requires
+oldest-requires c κs = search (needs, fits-shaped, fits-entries, fits-room, fits-slot, fits-words)
+
+remove-requires : tie.Need-remove-requires
+remove-requires c κs = search needs
+
+same-length-3 : tie.Need-same-length-3
+same-length-3 c = search needs
+
+returns-3 : tie.Need-returns-3
+returns-3 c = search needs
+
+pub make-room-spec : {M : Type 1} → statement M
+make-room-spec =
+    tie.close
+    (tie.spec
+    read-header-requires
+    enum-known-h
+    enum-told
+    same-length
+    returns
+    same-length-2
+    returns-2
+    oldest-requires
+    remove-requires
+    same-length-3
+    returns-3)

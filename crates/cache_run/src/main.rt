@@ -1,0 +1,271 @@
+// Thousands of hits, insertions and removals in bad orders on a cache of limit 40. After each the store is checked and its
+// whole order of use goes into a digest; at the end the order is printed. What it prints was worked out beside it by another
+// program, over plain lists.
+use cache::find::Nearest;
+use prefix::Address;
+use slots::Shape;
+ghost use mathlib.Core.Path.{_≡_};
+ghost use Prim.Native.Nat.{_≤_};
+ghost use Rattle.slots.specs.Layout.{entriesHeld, Room, Shaped};
+ghost use Rattle.cache.specs.Caches.{Slot};
+
+const TURNS: u32 = 6_000;
+
+// What happened so far. The counts wrap, which no run comes near; the digest stands for every order of use.
+struct Totals {
+    seed: u64,
+    hits: u64,
+    stored: u64,
+    removed: u64,
+    unsound: u64,
+    digest: u64,
+}
+
+fn one_more(n: u64) -> u64 {
+    std::num::wrapping_add_u64(n, 1)
+}
+
+fn next(seed: u64) -> u64 {
+    (seed % 4_294_967_296 * 1_103_515_245 + 12_345) % 4_294_967_296
+}
+
+// The low bits of such a seed repeat soon, so that only the high ones are used.
+fn high(seed: u64) -> u64 {
+    seed / 65_536
+}
+
+fn address_for(seed: u64) -> Address {
+    let pattern = high(next(seed)) % 64 * 68_174_084 + high(next(next(seed))) % 4;
+    prefix::from_ipv4((pattern % 4_294_967_296) as u32)
+}
+
+fn digested(digest: u64, n: u64) -> u64 {
+    (digest % 1_000_003 * 31 + n % 1_000_003) % 1_000_003
+}
+
+// ---- one turn
+
+// The first bits of x, one to three more than any entry shares with it, where there is room.
+fn insert(store: &mut [u32], x: Address, past: u32, seed: u64, turn: u32) {
+    let Shape::Fits(h) = slots::read_header(store) else {
+        return;
+    };
+    if h.limit <= h.entries {
+        return;
+    }
+    let entries = h.entries;
+    let n = shorter(past, high(seed));
+    let hop = hop_for(turn);
+    cache::insert::insert_entry(store, entries, x, n, hop);
+}
+
+fn hop_for(turn: u32) -> u32
+    ensures { λ r. ⌜ r ≤ 65535 ⌝ }
+{
+    1 + turn % 60_000
+}
+
+// One to three more bits than are shared, at most 32.
+fn shorter(past: u32, k: u64) -> u32
+    ensures { λ r. ⌜ r ≤ 32 ⌝ }
+{
+    if 32 <= past {
+        return 32;
+    }
+    let n = past + ((k % 3) as u32);
+    if 32 < n { 32 } else { n }
+}
+
+fn remove(store: &mut [u32], k: u32) {
+    let Shape::Fits(h) = slots::read_header(store) else {
+        return;
+    };
+    if k == 0 {
+        return;
+    }
+    if h.entries < k {
+        return;
+    }
+    let entries = h.entries;
+    cache::remove::remove_entry(store, entries, k);
+}
+
+// Where there is no room, the least recently used entry goes: how many went.
+fn make_room(store: &mut [u32]) -> u64 {
+    let Shape::Fits(h) = slots::read_header(store) else {
+        return 0;
+    };
+    if h.entries < h.limit {
+        return 0;
+    }
+    let k = cache::order::oldest(store);
+    remove(store, k);
+    1
+}
+
+fn store_new(store: &mut [u32], x: Address, past: u32, turn: u32, t: Totals) -> Totals {
+    let mut u = t;
+    u.stored = one_more(t.stored);
+    u.removed = std::num::wrapping_add_u64(t.removed, make_room(store));
+    insert(store, x, past, t.seed, turn);
+    u
+}
+
+fn use_or_remove(store: &mut [u32], entries: u32, k: u32, t: Totals) -> Totals
+    requires { ⌜ Shaped (now store) ⌝ }
+    requires { ⌜ entries ≡ entriesHeld (now store) ⌝ }
+    requires { ⌜ Slot (now store) k ⌝ }
+{
+    let mut u = t;
+    if high(t.seed) % 10 < 4 {
+        cache::remove::remove_entry(store, entries, k);
+        u.removed = one_more(t.removed);
+        return u;
+    }
+    cache::order::to_front(store, entries, k);
+    u.hits = one_more(t.hits);
+    u
+}
+
+fn turn_once(store: &mut [u32], turn: u32, t: Totals) -> Totals {
+    let x = address_for(t.seed);
+    let mut u = t;
+    u.seed = next(next(next(t.seed)));
+    let Shape::Fits(h) = slots::read_header(store) else {
+        u.unsound = one_more(t.unsound);
+        return u;
+    };
+    let entries = h.entries;
+    match cache::find::find_entry(store, entries, x) {
+        Nearest::Hit(k) => use_or_remove(store, entries, k, u),
+        Nearest::Miss(past) => store_new(store, x, past, turn, u),
+    }
+}
+
+// ---- the order of use
+
+// The hop and the length of the entry in a slot, and the slot used before it.
+struct Seen {
+    at: u32,
+    digest: u64,
+}
+
+fn see(store: &[u32], s: Seen, shown: bool) -> Seen {
+    let at = s.at;
+    let Shape::Fits(h) = slots::read_header(store) else {
+        return s;
+    };
+    if h.entries < at {
+        return s;
+    }
+    seen_at(store, at, s.digest, shown)
+}
+
+fn seen_at(store: &[u32], at: u32, digest: u64, shown: bool) -> Seen
+    requires { ⌜ Room (now store) at ⌝ }
+{
+    let n = slots::length_of(store, at);
+    let hop = slots::hop_of(store, at);
+    let next = slots::next_of(store, at);
+    show_entry(shown, slots::address_of(store, at), n, hop);
+    Seen {
+        at: next,
+        digest: digested(digest, (hop as u64) * 64 + (n as u64)),
+    }
+}
+
+// The slot used most recently, or 0.
+fn first_of(store: &[u32]) -> u32 {
+    let Shape::Fits(_) = slots::read_header(store) else {
+        return 0;
+    };
+    slots::next_of(store, 0)
+}
+
+fn held(store: &[u32]) -> u32 {
+    let Shape::Fits(h) = slots::read_header(store) else {
+        return 0;
+    };
+    h.entries
+}
+
+// The whole order of use, from the most recently used entry on.
+fn see_all(store: &[u32], digest: u64, shown: bool) -> u64 {
+    let mut s = Seen {
+        at: first_of(store),
+        digest,
+    };
+    let mut left = held(store);
+    while left != 0 {
+        s = see(store, s, shown);
+        left -= 1;
+    }
+    s.digest
+}
+
+fn show_entry(shown: bool, a: Address, n: u32, hop: u32) {
+    if !shown {
+        return;
+    }
+    if 32 < n {
+        return;
+    }
+    let word = prefix::to_ipv4(prefix::trim_high(a, n));
+    io::print_decimal(1, (word / 16_777_216) as u64);
+    io::write_all(1, b".");
+    io::print_decimal(1, (word / 65_536 % 256) as u64);
+    io::write_all(1, b".");
+    io::print_decimal(1, (word / 256 % 256) as u64);
+    io::write_all(1, b".");
+    io::print_decimal(1, (word % 256) as u64);
+    io::write_all(1, b"/");
+    io::print_decimal(1, n as u64);
+    io::write_all(1, b" ");
+    io::print_decimal(1, hop as u64);
+    io::write_all(1, b"\n");
+}
+
+fn checked(store: &[u32], t: Totals) -> Totals {
+    let mut u = t;
+    if !cache::check::check_entries(store) {
+        u.unsound = one_more(t.unsound);
+    }
+    u.digest = see_all(store, t.digest, false);
+    u
+}
+
+fn run(store: &mut [u32]) -> Totals {
+    let mut t = Totals {
+        seed: 99,
+        hits: 0,
+        stored: 0,
+        removed: 0,
+        unsound: 0,
+        digest: 0,
+    };
+    let mut k: u32 = 0;
+    while k < TURNS {
+        t = turn_once(store, k, t);
+        t = checked(store, t);
+        k += 1;
+    }
+    t
+}
+
+fn show(name: &[u8], n: u64) {
+    io::write_all(1, name);
+    io::print_decimal(1, n);
+    io::write_all(1, b"\n");
+}
+
+fn main() {
+    let mut store = [0xffff_ffffu32; 1400];
+    cache::set_up(&mut store, 40);
+    let t = run(&mut store);
+    show(b"hits ", t.hits);
+    show(b"stored ", t.stored);
+    show(b"removed ", t.removed);
+    show(b"unsound ", t.unsound);
+    show(b"digest ", t.digest);
+    see_all(&store, 0, true);
+}
