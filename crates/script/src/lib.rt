@@ -1,0 +1,5 @@
+// The script's text: what a line of bytes asks for, and the bytes of each line that is printed. Everything works on lent
+// bytes in one pass; nothing is kept.
+mod lines;
+
+pub use lines::Line;

@@ -1,0 +1,55 @@
+// Reading. A line is split at its spaces and an address at its points, so each number is the part before the next mark.
+ghost use mathlib.Core.Path.{_≡_};
+ghost use Rattle.script.specs.Reading.{partAt};
+
+const LONGEST: usize = 64;
+
+const SPACE: u8 = b' ';
+
+const POINT: u8 = b'.';
+
+const FEED: u8 = b'\n';
+
+// What a line asks for, an address as one number, first octet highest.
+pub enum Line {
+    Announce(u32, u32, u32),
+    Withdraw(u32, u32),
+    Look(u32),
+    Bad,
+}
+
+// A number that was read, and where its part of the line ends.
+enum Found {
+    Number(u32, usize),
+    Nothing,
+}
+
+// The number from a place up to the next mark or the line's end: digits, at least one, of a value that is at most `most`.
+fn part(line: &[u8], at: usize, mark: u8, most: u32) -> Found
+    ensures { λ r. ⌜ r ≡ partAt mark most (now (line .entry)) at ⌝ }
+{
+    let largest = most as u64;
+    let mut value: u64 = 0;
+    let mut i = at;
+    while i < line.len() {
+        let byte = line[i];
+        if byte == mark {
+            break;
+        }
+        if byte < b'0' {
+            return Found::Nothing;
+        }
+        if b'9' < byte {
+            return Found::Nothing;
+        }
+        value = value * 10 + (byte - b'0') as u64;
+        if largest < value {
+            return Found::Nothing;
+        }
+        i += 1;
+    }
+    if i <= at {
+        return Found::Nothing;
+    }
+    Found::Number(value as u32, i)
+}
