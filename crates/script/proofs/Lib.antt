@@ -1,1 +1,3 @@
 pub mod PartLaws
+pub mod Splitting
+pub mod AddressLaws

@@ -50,23 +50,28 @@ module _ (mark most v : ℕ) (l : List ℕ) (at : ℕ) where
         unfolding partFrom numberFrom valueFrom digits digit before ended endOf
         part-too-large h = rw (drop-cons l at 0 inside, ne-eqb _ _ goes-on, le-leb _ _ low, le-leb _ _ high, lt-leb _ _ (lt-of-lt-of-le h (grows (before mark (drop (suc at) l)) _)), and-false)
 
--- ---- the whole part, from its start
+-- ---- the whole part, from its start: what an answer tells of the number, and the other way round
 
-end-of : (o : Option ℕ) (end : ℕ) {v e : ℕ} → ended o end ≡ Number v e → end ≡ e
+pub ended-told : (o : Option ℕ) (end : ℕ) {v e : ℕ} → ended o end ≡ Number v e → (o ≡ some v) × (e ≡ end)
 unfolding ended
-end-of none end h = let z : _≡_ {A = ℕ} 0 1 = cc in omega arith
-end-of (some w) end h = cc
+ended-told none end h = let z : _≡_ {A = ℕ} 0 1 = cc in absurd (omega arith)
+ended-told (some w) end h = (cc, cc)
+
+pub ended-none : (o : Option ℕ) (end : ℕ) → ended o end ≡ Nothing → o ≡ none
+unfolding ended
+ended-none none end h = refl
+ended-none (some w) end h = let z : _≡_ {A = ℕ} 0 1 = cc in absurd (omega arith)
 
 module _ (most at : ℕ) {v e : ℕ} where
   whole : (f : List ℕ) → ended (numberFrom most 0 f) (at + length f) ≡ Number v e → at < e → Number v e ≡ ended (number most f) (at + length f)
   unfolding number
-  whole [] h k = absurd (let x = end-of _ _ h in omega arith)
+  whole [] h k = absurd (let x = ended-told (numberFrom most 0 []) (at + 0) h .1 in omega arith)
   whole (b ∷ f) h k = sym h
 
   empty : (f : List ℕ) → ended (numberFrom most 0 f) (at + length f) ≡ Number v e → e ≤ at → Nothing ≡ ended (number most f) (at + length f)
   unfolding number ended
   empty [] h k = refl
-  empty (b ∷ f) h k = absurd (let x : at + suc (length f) ≡ e = end-of (numberFrom most 0 (b ∷ f)) _ h in omega arith)
+  empty (b ∷ f) h k = absurd (let x = ended-told (numberFrom most 0 (b ∷ f)) (at + suc (length f)) h .1 in omega arith)
 
 module _ (most at : ℕ) where
   none-of : (f : List ℕ) → ended (numberFrom most 0 f) (at + length f) ≡ Nothing → Nothing ≡ ended (number most f) (at + length f)

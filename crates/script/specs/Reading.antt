@@ -5,7 +5,7 @@ use mathlib.Core.List.{List, [], _∷_}
 use mathlib.Core.Option.{Option, none, some}
 use lib.ListN.{length, drop}
 use lib.Dec.{eqb, ltb}
-use Rattle.script.specs.Lines.{numberFrom, number}
+use Rattle.script.specs.Lines.{numberFrom, number, parts, numbers, address, space, point, largest}
 use Rattle.script.specs.declared.lines.Found.{Found}
 use Rattle.script.specs.declared.lines.Found.the-variants.{Number, Nothing}
 
@@ -13,6 +13,11 @@ use Rattle.script.specs.declared.lines.Found.the-variants.{Number, Nothi
 unfoldable pub before : ℕ → List ℕ → List ℕ
 before mark [] = []
 before mark (b ∷ l) = cond (eqb b mark) [] (b ∷ before mark l)
+
+-- the parts after the mark that a list starts with
+unfoldable pub rest : ℕ → List ℕ → List (List ℕ)
+rest mark [] = []
+rest mark (b ∷ l) = parts mark l
 
 unfoldable pub ended : Option ℕ → ℕ → Found
 ended none end = Nothing
@@ -28,3 +33,14 @@ partAt mark most l at = ended (number most (before mark (drop at l))) (endOf mar
 -- the same in the middle of a part, after digits of the value v
 unfoldable pub partFrom : ℕ → ℕ → ℕ → List ℕ → ℕ → Found
 partFrom mark most v l at = ended (numberFrom most v (before mark (drop at l))) (endOf mark l at)
+
+-- the octet from a place up to a point, which has to be there, and the place after it
+unfoldable pub pointed : Found → ℕ → Found
+pointed Nothing n = Nothing
+pointed (Number v end) n = cond (ltb end n) (Number v (end + 1)) Nothing
+
+unfoldable pub octetAt : List ℕ → ℕ → Found
+octetAt l at = pointed (partAt point 255 l at) (length l)
+
+unfoldable pub addressAt : List ℕ → ℕ → Found
+addressAt l at = ended (address (before space (drop at l))) (endOf space l at)

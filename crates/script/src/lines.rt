@@ -1,6 +1,6 @@
 // Reading. A line is split at its spaces and an address at its points, so each number is the part before the next mark.
 ghost use mathlib.Core.Path.{_≡_};
-ghost use Rattle.script.specs.Reading.{partAt};
+ghost use Rattle.script.specs.Reading.{partAt, octetAt};
 
 const LONGEST: usize = 64;
 
@@ -52,4 +52,17 @@ fn part(line: &[u8], at: usize, mark: u8, most: u32) -> Found
         return Found::Nothing;
     }
     Found::Number(value as u32, i)
+}
+
+// The octet from a place up to a point, and the place after the point.
+fn octet(line: &[u8], at: usize) -> Found
+    ensures { λ r. ⌜ r ≡ octetAt (now (line .entry)) at ⌝ }
+{
+    let Found::Number(value, end) = part(line, at, POINT, 255) else {
+        return Found::Nothing;
+    };
+    if line.len() <= end {
+        return Found::Nothing;
+    }
+    Found::Number(value, end + 1)
 }

@@ -1,0 +1,85 @@
+-- What splitting at a mark leaves: the part before the first mark, and the parts after it. Assumes nothing.
+use Prim.Native.Nat.{ℕ, zero, suc, _+_, _≤_, _<_}
+use native.Mathlib.Omega.{arith}
+use native.Mathlib.Nat.{add-zero}
+use native.Mathlib.Numerals.{add-one}
+use mathlib.Core.Path.{_≡_, refl, sym, ap, _∙_}
+use mathlib.Core.Bool.{Bool, true, false, cond, _&&_}
+use mathlib.Core.List.{List, [], _∷_}
+use mathlib.Core.Logic.{_⊎_, inl, inr, ⊎-elim}
+use mathlib.Core.Option.{Option, none, some}
+use lib.ListN.{length, drop}
+use lib.Seq.{drop-drop}
+use lib.Dec.{leb, eqb}
+use borrow.Author.Tests.{leb-true, eqb-true, ne-eqb}
+use Rattle.script.specs.Lines.{digit, digits, number, numberFrom, numbers, both, onto, parts, space, point}
+use Rattle.script.specs.Reading.{before, rest, endOf}
+
+-- by whether a test holds
+pub by-cases : {P : Type 0} (t : Bool) → (t ≡ true → P) → (t ≡ false → P) → P
+by-cases true yes′ no′ = yes′ refl
+by-cases false yes′ no′ = no′ refl
+
+pub both-true : (t u : Bool) → (t && u) ≡ true → (t ≡ true) × (u ≡ true)
+both-true true u h = (refl, h)
+both-true false u h = (h, let z : _≡_ {A = ℕ} 0 1 = cc in absurd (omega arith))
+
+-- a digit is no space and no point
+pub no-mark : (b m : ℕ) → digit b ≡ true → m < 48 → eqb b m ≡ false
+unfolding digit
+no-mark b m h k =
+    let low : 48 ≤ b = leb-true 48 b (both-true (leb 48 b) (leb b 57) h .0) in
+    ne-eqb b m (λ e. omega arith)
+
+-- the first part, and what is left after it
+pub split-first : (m : ℕ) (t : List ℕ) → parts m t ≡ before m t ∷ rest m (drop (length (before m t)) t)
+unfolding parts before rest onto
+split-first m [] = refl
+split-first m (b ∷ t) = by-cases (eqb b m) (λ e. rw e) (λ e. rw (e, split-first m t))
+
+-- digits are one part
+pub one-part : (m : ℕ) (t : List ℕ) → m < 48 → digits t ≡ true → parts m t ≡ t ∷ []
+unfolding parts digits onto
+one-part m [] k h = refl
+one-part m (b ∷ t) k h =
+    let (d, ds) = both-true (digit b) (digits t) h in
+    rw (no-mark b m d k, one-part m t k ds)
+
+-- split at points, the bytes before a space: they are one octet, or a point ends the first and there are more
+pub record Octet (t : List ℕ) : Type 0 where
+  pub more : List ℕ
+  pub split : parts point (before space t) ≡ before point t ∷ parts point more
+  pub inside : length (before point t) < length t
+
+pub one-or-more : (t : List ℕ) → (parts point (before space t) ≡ before space t ∷ []) ⊎ Octet t
+unfolding parts before onto
+one-or-more [] = inl refl
+one-or-more (b ∷ t) =
+    by-cases (eqb b space) (λ e. inl (rw e))
+    (λ e. by-cases (eqb b point)
+    (λ p. inr (record { more = before space t; split = rw (e, p); inside = rw p (omega arith) }))
+    (λ p. ⊎-elim
+    (λ (h : parts point (before space t) ≡ before space t ∷ []). inl (rw (e, p, h)))
+    (λ (h : Octet t). inr (record { more = h .more; split = rw (e, p, h .split); inside = rw p (omega (arith, h .inside)) }))
+    (one-or-more t)))
+
+-- digits up to a point: they are the first octet, and the bytes before a space go on after the point
+pub record Pointed (t u : List ℕ) : Type 0 where
+  pub split : parts point (before space t) ≡ before point t ∷ parts point (before space u)
+  pub longer : length (before space t) ≡ suc (length (before point t)) + length (before space u)
+
+pub first-octet : (t : List ℕ) → digits (before point t) ≡ true → length (before point t) < length t → Pointed t (drop (suc (length (before point t))) t)
+unfolding parts before onto digits
+first-octet [] h k = absurd (omega arith)
+first-octet (b ∷ t) h k =
+    by-cases (eqb b point)
+    (λ p.
+    let is : b ≡ point = eqb-true b point p in
+    let e : eqb b space ≡ false = ne-eqb b space (λ z. omega arith) in
+    rw p (record { split = rw (e, p); longer = rw (e, p) (omega arith) }))
+    (λ p.
+    let (d, ds) = both-true (digit b) (digits (before point t)) (rw p at h) in
+    let e : eqb b space ≡ false = no-mark b space d (omega arith) in
+    let k′ : suc (length (before point t)) < suc (length t) = rw p at k in
+    let r = first-octet t ds (omega arith) in
+    rw p (record { split = rw (e, p, r .split); longer = rw (e, p) (omega (arith, r .longer)) }))
