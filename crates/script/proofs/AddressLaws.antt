@@ -101,9 +101,9 @@ pointed-none none e n h k = refl
 pointed-none (some v) e n h k = let g = rw (lt-ltb _ _ k) at h in let z : _≡_ {A = ℕ} 0 1 = cc in absurd (omega arith)
 
 module _ (l : List ℕ) (at : ℕ) where
-  pub octet-small : (a i : ℕ) → octetAt l at ≡ Number a i → a ≤ 255
+  pub octet-small : (r : Found) (a i : ℕ) → r ≡ octetAt l at → r ≡ Number a i → a ≤ 255
   unfolding octetAt partAt
-  octet-small a i h = number-told 255 _ (pointed-told _ _ _ h .0) .small
+  octet-small r a i t h = number-told 255 _ (pointed-told _ _ _ (sym t ∙ h) .0) .small
 
   octet-step : (a i : ℕ) → octetAt l at ≡ Number a i → (octets (drop at l) ≡ both (some a) (octets (drop i l))) × (endOf space l i ≡ endOf space l at)
   unfolding octetAt partAt endOf octets numbers
@@ -126,6 +126,10 @@ module _ (l : List ℕ) (at : ℕ) where
       let bad = pointed-none (number 255 (before point (drop at l))) (at + length (before point (drop at l))) (length l) h (omega arith) in
       rw (o .split, none-first (before point (drop at l)) (parts point (o .more)) bad) few-none)
       (one-or-more (drop at l))
+
+  pub last-small : (r : Found) (d e : ℕ) → r ≡ partAt space 255 l at → r ≡ Number d e → d ≤ 255
+  unfolding partAt
+  last-small r d e t h = number-told 255 _ (ended-told _ _ (sym t ∙ h) .0) .small
 
   last-octet : (d e : ℕ) → partAt space 255 l at ≡ Number d e → (octets (drop at l) ≡ some (d ∷ [])) × (e ≡ endOf space l at)
   unfolding partAt octets numbers both
@@ -164,29 +168,38 @@ unfolding four both
 many-after-three a b c many-none = refl
 many-after-three a b c many-two = refl
 
-module _ (l : List ℕ) (at : ℕ) where
-  pub address-none-1 : octetAt l at ≡ Nothing → Nothing ≡ addressAt l at
+-- r is what a call answers: what its contract says, and what the match found
+module _ (l : List ℕ) (at : ℕ) (r₁ : Found) (t₁ : r₁ ≡ octetAt l at) where
+  pub address-none-1 : r₁ ≡ Nothing → Nothing ≡ addressAt l at
   unfolding addressAt address octets ended
-  address-none-1 h = rw (few-of-four (octet-fails l at h))
+  address-none-1 h = rw (few-of-four (octet-fails l at (sym t₁ ∙ h)))
 
-  module _ (a i : ℕ) (h₁ : octetAt l at ≡ Number a i) where
-    pub address-none-2 : octetAt l i ≡ Nothing → Nothing ≡ addressAt l at
+  module _ (a i : ℕ) (h₁ : r₁ ≡ Number a i) (r₂ : Found) (t₂ : r₂ ≡ octetAt l i) where
+    step₁ : (octets (drop at l) ≡ both (some a) (octets (drop i l))) × (endOf space l i ≡ endOf space l at)
+    step₁ = octet-step l at a i (sym t₁ ∙ h₁)
+
+    pub address-none-2 : r₂ ≡ Nothing → Nothing ≡ addressAt l at
     unfolding addressAt address octets ended
-    address-none-2 h = rw (octet-step l at a i h₁ .0, few-after-one a (octet-fails l i h))
+    address-none-2 h = rw (step₁ .0, few-after-one a (octet-fails l i (sym t₂ ∙ h)))
 
-    module _ (b j : ℕ) (h₂ : octetAt l i ≡ Number b j) where
-      pub address-none-3 : octetAt l j ≡ Nothing → Nothing ≡ addressAt l at
+    module _ (b j : ℕ) (h₂ : r₂ ≡ Number b j) (r₃ : Found) (t₃ : r₃ ≡ octetAt l j) where
+      step₂ : (octets (drop i l) ≡ both (some b) (octets (drop j l))) × (endOf space l j ≡ endOf space l i)
+      step₂ = octet-step l i b j (sym t₂ ∙ h₂)
+
+      pub address-none-3 : r₃ ≡ Nothing → Nothing ≡ addressAt l at
       unfolding addressAt address octets ended
-      address-none-3 h =
-          rw (octet-step l at a i h₁ .0, octet-step l i b j h₂ .0, few-after-two a b (octet-fails l j h))
+      address-none-3 h = rw (step₁ .0, step₂ .0, few-after-two a b (octet-fails l j (sym t₃ ∙ h)))
 
-      module _ (c k : ℕ) (h₃ : octetAt l j ≡ Number c k) where
-        pub address-none-4 : partAt space 255 l k ≡ Nothing → Nothing ≡ addressAt l at
+      module _ (c k : ℕ) (h₃ : r₃ ≡ Number c k) (r₄ : Found) (t₄ : r₄ ≡ partAt space 255 l k) where
+        step₃ : (octets (drop j l) ≡ both (some c) (octets (drop k l))) × (endOf space l k ≡ endOf space l j)
+        step₃ = octet-step l j c k (sym t₃ ∙ h₃)
+
+        pub address-none-4 : r₄ ≡ Nothing → Nothing ≡ addressAt l at
         unfolding addressAt address octets ended
-        address-none-4 h =
-            rw (octet-step l at a i h₁ .0, octet-step l i b j h₂ .0, octet-step l j c k h₃ .0, many-after-three a b c (last-fails l k h))
+        address-none-4 h = rw (step₁ .0, step₂ .0, step₃ .0, many-after-three a b c (last-fails l k (sym t₄ ∙ h)))
 
-        pub address-read : (d e : ℕ) → partAt space 255 l k ≡ Number d e → Number (((a * 256 + b) * 256 + c) * 256 + d) e ≡ addressAt l at
+        pub address-read : (d e : ℕ) → r₄ ≡ Number d e → Number (((a * 256 + b) * 256 + c) * 256 + d) e ≡ addressAt l at
         unfolding addressAt address octets ended four both
         address-read d e h =
-            rw (octet-step l at a i h₁ .0, octet-step l i b j h₂ .0, octet-step l j c k h₃ .0, last-octet l k d e h .0, ← octet-step l at a i h₁ .1, ← octet-step l i b j h₂ .1, ← octet-step l j c k h₃ .1, last-octet l k d e h .1)
+            let (is, end) = last-octet l k d e (sym t₄ ∙ h) in
+            rw (step₁ .0, step₂ .0, step₃ .0, is, ← step₁ .1, ← step₂ .1, ← step₃ .1, end)

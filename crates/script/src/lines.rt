@@ -1,6 +1,7 @@
 // Reading. A line is split at its spaces and an address at its points, so each number is the part before the next mark.
 ghost use mathlib.Core.Path.{_≡_};
-ghost use Rattle.script.specs.Reading.{partAt, octetAt};
+ghost use Prim.Native.Nat.{_+_, _*_, _≤_};
+ghost use Rattle.script.specs.Reading.{partAt, octetAt, addressAt};
 
 const LONGEST: usize = 64;
 
@@ -65,4 +66,31 @@ fn octet(line: &[u8], at: usize) -> Found
         return Found::Nothing;
     }
     Found::Number(value, end + 1)
+}
+
+// Four octets as one number, the first highest.
+fn joined(a: u32, b: u32, c: u32, d: u32) -> u32
+    requires { ⌜ (a ≤ 255) × (b ≤ 255) × (c ≤ 255) × (d ≤ 255) ⌝ }
+    ensures { λ r. ⌜ r ≡ ((a * 256 + b) * 256 + c) * 256 + d ⌝ }
+{
+    ((a * 256 + b) * 256 + c) * 256 + d
+}
+
+// The address from a place up to a space or the line's end.
+fn address(line: &[u8], at: usize) -> Found
+    ensures { λ r. ⌜ r ≡ addressAt (now (line .entry)) at ⌝ }
+{
+    let Found::Number(a, i) = octet(line, at) else {
+        return Found::Nothing;
+    };
+    let Found::Number(b, j) = octet(line, i) else {
+        return Found::Nothing;
+    };
+    let Found::Number(c, k) = octet(line, j) else {
+        return Found::Nothing;
+    };
+    let Found::Number(d, end) = part(line, k, SPACE, 255) else {
+        return Found::Nothing;
+    };
+    Found::Number(joined(a, b, c, d), end)
 }
