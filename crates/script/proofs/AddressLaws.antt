@@ -11,7 +11,8 @@ use lib.Seq.{drop-drop}
 use lib.Dec.{leb, ltb}
 use borrow.Author.Tests.{lt-ltb, le-ltb, ltb-true, ltb-false, leb-true}
 use Rattle.script.specs.Lines.{digits, valueFrom, numberFrom, number, both, numbers, parts, four, address, space, point}
-use Rattle.script.specs.Reading.{before, rest, ended, endOf, partAt, pointed, octetAt, addressAt}
+use Rattle.script.specs.Blocks.{before, endOf}
+use Rattle.script.specs.Reading.{rest, ended, partAt, pointed, octetAt, addressAt}
 use Rattle.script.proofs.PartLaws.{ended-told, ended-none}
 use Rattle.script.proofs.Splitting.{by-cases, both-true, split-first, one-part, Octet, one-or-more, Pointed, first-octet}
 use Rattle.script.specs.declared.lines.Found.{Found}

@@ -1,3 +1,5 @@
 pub mod PartLaws
 pub mod Splitting
 pub mod AddressLaws
+pub mod LineLaws
+pub mod FeedLaws

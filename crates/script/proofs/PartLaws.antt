@@ -12,7 +12,8 @@ use lib.Seq.{drop-cons}
 use lib.Dec.{leb, eqb}
 use borrow.Author.Tests.{le-leb, lt-leb, eq-eqb, ne-eqb}
 use Rattle.script.specs.Lines.{digit, digits, valueFrom, numberFrom, number}
-use Rattle.script.specs.Reading.{before, endOf, ended, partAt, partFrom}
+use Rattle.script.specs.Blocks.{before, endOf}
+use Rattle.script.specs.Reading.{ended, partAt, partFrom}
 use Rattle.script.specs.declared.lines.Found.{Found}
 use Rattle.script.specs.declared.lines.Found.the-variants.{Number, Nothing}
 

@@ -13,7 +13,8 @@ use lib.Seq.{drop-drop}
 use lib.Dec.{leb, eqb}
 use borrow.Author.Tests.{leb-true, eqb-true, ne-eqb}
 use Rattle.script.specs.Lines.{digit, digits, number, numberFrom, numbers, both, onto, parts, space, point}
-use Rattle.script.specs.Reading.{before, rest, endOf}
+use Rattle.script.specs.Blocks.{before, endOf}
+use Rattle.script.specs.Reading.{rest}
 
 -- by whether a test holds
 pub by-cases : {P : Type 0} (t : Bool) → (t ≡ true → P) → (t ≡ false → P) → P

@@ -5,14 +5,14 @@ use mathlib.Core.List.{List, [], _∷_}
 use mathlib.Core.Option.{Option, none, some}
 use lib.ListN.{length, drop}
 use lib.Dec.{eqb, ltb}
+use Rattle.script.specs.Blocks.{before, endOf}
 use Rattle.script.specs.Lines.{numberFrom, number, parts, numbers, address, space, point, largest}
+use Rattle.script.specs.declared.lines.Line.{Line}
+use Rattle.script.specs.declared.lines.Line.the-variants.{Announce, Withdraw, Look, Bad}
+use Rattle.script.specs.declared.lines.Numbers.{Numbers}
+use Rattle.script.specs.declared.lines.Numbers.the-variants.{Zero, One, Two, Other}
 use Rattle.script.specs.declared.lines.Found.{Found}
 use Rattle.script.specs.declared.lines.Found.the-variants.{Number, Nothing}
-
--- the bytes before the first mark, or all of them
-unfoldable pub before : ℕ → List ℕ → List ℕ
-before mark [] = []
-before mark (b ∷ l) = cond (eqb b mark) [] (b ∷ before mark l)
 
 -- the parts after the mark that a list starts with
 unfoldable pub rest : ℕ → List ℕ → List (List ℕ)
@@ -22,10 +22,6 @@ rest mark (b ∷ l) = parts mark l
 unfoldable pub ended : Option ℕ → ℕ → Found
 ended none end = Nothing
 ended (some v) end = Number v end
-
--- where the part that starts at a place ends
-unfoldable pub endOf : ℕ → List ℕ → ℕ → ℕ
-endOf mark l at = at + length (before mark (drop at l))
 
 unfoldable pub partAt : ℕ → ℕ → List ℕ → ℕ → Found
 partAt mark most l at = ended (number most (before mark (drop at l))) (endOf mark l at)
@@ -44,3 +40,19 @@ octetAt l at = pointed (partAt point 255 l at) (length l)
 
 unfoldable pub addressAt : List ℕ → ℕ → Found
 addressAt l at = ended (address (before space (drop at l))) (endOf space l at)
+
+unfoldable pub counted : Option (List ℕ) → Numbers
+counted none = Other
+counted (some []) = Zero
+counted (some (n ∷ [])) = One n
+counted (some (n ∷ h ∷ [])) = Two n h
+counted (some (n ∷ h ∷ x ∷ ns)) = Other
+
+unfoldable pub afterAt : List ℕ → ℕ → Numbers
+afterAt l at = counted (numbers largest (rest space (drop at l)))
+
+unfoldable pub called : ℕ → ℕ → Numbers → Line
+called letter a Zero = cond (eqb letter 76) (Look a) Bad
+called letter a (One n) = cond (eqb letter 87) (Withdraw a n) Bad
+called letter a (Two n h) = cond (eqb letter 65) (Announce a n h) Bad
+called letter a Other = Bad

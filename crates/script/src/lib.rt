@@ -3,3 +3,6 @@
 mod lines;
 
 pub use lines::Line;
+pub use lines::Next;
+pub use lines::next_feed;
+pub use lines::read_line;

@@ -1,9 +1,13 @@
 // Reading. A line is split at its spaces and an address at its points, so each number is the part before the next mark.
 ghost use mathlib.Core.Path.{_≡_};
 ghost use Prim.Native.Nat.{_+_, _*_, _≤_};
-ghost use Rattle.script.specs.Reading.{partAt, octetAt, addressAt};
+ghost use Rattle.script.specs.Lines.{lineOf};
+ghost use Rattle.script.specs.Blocks.{feedAt};
+ghost use Rattle.script.specs.Reading.{partAt, octetAt, addressAt, afterAt, called};
 
 const LONGEST: usize = 64;
+
+const LARGEST: u32 = 4_294_967_295;
 
 const SPACE: u8 = b' ';
 
@@ -23,6 +27,14 @@ pub enum Line {
 enum Found {
     Number(u32, usize),
     Nothing,
+}
+
+// The numbers after an address.
+enum Numbers {
+    Zero,
+    One(u32),
+    Two(u32, u32),
+    Other,
 }
 
 // The number from a place up to the next mark or the line's end: digits, at least one, of a value that is at most `most`.
@@ -93,4 +105,98 @@ fn address(line: &[u8], at: usize) -> Found
         return Found::Nothing;
     };
     Found::Number(joined(a, b, c, d), end)
+}
+
+// The numbers from the space at a place on, each after one space, to the line's end.
+fn numbers_after(line: &[u8], at: usize) -> Numbers
+    ensures { λ r. ⌜ r ≡ afterAt (now (line .entry)) at ⌝ }
+{
+    if line.len() <= at {
+        return Numbers::Zero;
+    }
+    let Found::Number(n, i) = part(line, at + 1, SPACE, LARGEST) else {
+        return Numbers::Other;
+    };
+    if line.len() <= i {
+        return Numbers::One(n);
+    }
+    let Found::Number(h, j) = part(line, i + 1, SPACE, LARGEST) else {
+        return Numbers::Other;
+    };
+    if line.len() <= j {
+        return Numbers::Two(n, h);
+    }
+    Numbers::Other
+}
+
+// The call of a letter, an address and the numbers after it.
+fn call(letter: u8, address: u32, numbers: Numbers) -> Line
+    ensures { λ r. ⌜ r ≡ called letter address numbers ⌝ }
+{
+    match numbers {
+        Numbers::Zero => {
+            if letter == b'L' {
+                Line::Look(address)
+            } else {
+                Line::Bad
+            }
+        }
+        Numbers::One(n) => {
+            if letter == b'W' {
+                Line::Withdraw(address, n)
+            } else {
+                Line::Bad
+            }
+        }
+        Numbers::Two(n, h) => {
+            if letter == b'A' {
+                Line::Announce(address, n, h)
+            } else {
+                Line::Bad
+            }
+        }
+        Numbers::Other => Line::Bad,
+    }
+}
+
+// What a line asks for. Its line feed is not part of it.
+pub fn read_line(line: &[u8]) -> Line
+    ensures { λ r. ⌜ r ≡ lineOf (now (line .entry)) ⌝ }
+{
+    let length = line.len();
+    if LONGEST < length {
+        return Line::Bad;
+    }
+    if length < 2 {
+        return Line::Bad;
+    }
+    if line[1] != SPACE {
+        return Line::Bad;
+    }
+    let Found::Number(a, end) = address(line, 2) else {
+        return Line::Bad;
+    };
+    call(line[0], a, numbers_after(line, end))
+}
+
+// ---- lines in a block of bytes
+
+// Where a line feed is, or that there is none.
+pub enum Next {
+    At(usize),
+    None,
+}
+
+// The first line feed of a block, at or after a place.
+pub fn next_feed(block: &[u8], from: usize) -> Next
+    ensures { λ r. ⌜ r ≡ feedAt (now (block .entry)) from ⌝ }
+{
+    let mut i = from;
+    while i < block.len() {
+        if block[i] == FEED {
+            return Next::At(i);
+        }
+        i += 1;
+    }
+    Next::None
 }

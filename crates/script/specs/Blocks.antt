@@ -1,0 +1,24 @@
+-- Where a line of a block of bytes ends. Assumes nothing.
+use Prim.Native.Nat.{ℕ, _+_}
+use mathlib.Core.Bool.{cond}
+use mathlib.Core.List.{List, [], _∷_}
+use lib.ListN.{length, drop}
+use lib.Dec.{eqb, ltb}
+use Rattle.script.specs.declared.lines.Next.{Next}
+use Rattle.script.specs.declared.lines.Next.the-variants.{At, None}
+
+-- the bytes before the first mark, or all of them
+unfoldable pub before : ℕ → List ℕ → List ℕ
+before mark [] = []
+before mark (b ∷ l) = cond (eqb b mark) [] (b ∷ before mark l)
+
+-- the place of the first mark at or after a place, or the end
+unfoldable pub endOf : ℕ → List ℕ → ℕ → ℕ
+endOf mark l at = at + length (before mark (drop at l))
+
+abbrev pub feed : ℕ
+feed = 10
+
+-- the first line feed at or after a place
+unfoldable pub feedAt : List ℕ → ℕ → Next
+feedAt l from = cond (ltb (endOf feed l from) (length l)) (At (endOf feed l from)) None
