@@ -3,3 +3,4 @@ pub mod Splitting
 pub mod AddressLaws
 pub mod LineLaws
 pub mod FeedLaws
+pub mod Samples

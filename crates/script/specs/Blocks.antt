@@ -1,5 +1,6 @@
 -- Where a line of a block of bytes ends. Assumes nothing.
 use Prim.Native.Nat.{ℕ, _+_}
+use Prim.Native.Char.{code}
 use mathlib.Core.Bool.{cond}
 use mathlib.Core.List.{List, [], _∷_}
 use lib.ListN.{length, drop}
@@ -17,7 +18,7 @@ unfoldable pub endOf : ℕ → List ℕ → ℕ → ℕ
 endOf mark l at = at + length (before mark (drop at l))
 
 abbrev pub feed : ℕ
-feed = 10
+feed = code "\n"
 
 -- the first line feed at or after a place
 unfoldable pub feedAt : List ℕ → ℕ → Next

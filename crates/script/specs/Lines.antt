@@ -5,6 +5,7 @@
 -- A field is what stands between two spaces, or beside one. An empty field is no number and no address, so a leading, a
 -- doubled and a trailing space are bad by themselves. Assumes nothing.
 use Prim.Native.Nat.{ℕ, _+_, _-_, _*_}
+use Prim.Native.Char.{code}
 use mathlib.Core.Bool.{Bool, true, false, cond, _&&_}
 use mathlib.Core.List.{List, [], _∷_}
 use mathlib.Core.Option.{Option, none, some}
@@ -16,7 +17,7 @@ use Rattle.script.specs.declared.lines.Line.the-variants.{Announce, With
 -- ---- numbers
 
 unfoldable pub digit : ℕ → Bool
-digit b = leb 48 b && leb b 57
+digit b = leb (code "0") b && leb b (code "9")
 
 unfoldable pub digits : List ℕ → Bool
 digits [] = true
@@ -25,7 +26,7 @@ digits (b ∷ l) = digit b && digits l
 -- the value of digits that follow the value v
 unfoldable pub valueFrom : ℕ → List ℕ → ℕ
 valueFrom v [] = v
-valueFrom v (b ∷ l) = valueFrom (v * 10 + (b - 48)) l
+valueFrom v (b ∷ l) = valueFrom (v * 10 + (b - code "0")) l
 
 -- digits after the value v, of a value that is at most `most`
 unfoldable pub numberFrom : ℕ → ℕ → List ℕ → Option ℕ
@@ -66,10 +67,10 @@ abbrev pub longest : ℕ
 longest = 64
 
 abbrev pub space : ℕ
-space = 32
+space = code " "
 
 abbrev pub point : ℕ
-point = 46
+point = code "."
 
 -- the first octet is highest
 unfoldable pub four : Option (List ℕ) → Option ℕ
@@ -94,9 +95,9 @@ only letter (b ∷ c ∷ l) = false
 unfoldable pub call : List ℕ → Option ℕ → Option (List ℕ) → Line
 call word none ns = Bad
 call word (some a) none = Bad
-call word (some a) (some []) = cond (only 76 word) (Look a) Bad
-call word (some a) (some (n ∷ [])) = cond (only 87 word) (Withdraw a n) Bad
-call word (some a) (some (n ∷ h ∷ [])) = cond (only 65 word) (Announce a n h) Bad
+call word (some a) (some []) = cond (only (code "L") word) (Look a) Bad
+call word (some a) (some (n ∷ [])) = cond (only (code "W") word) (Withdraw a n) Bad
+call word (some a) (some (n ∷ h ∷ [])) = cond (only (code "A") word) (Announce a n h) Bad
 call word (some a) (some (n ∷ h ∷ x ∷ ns)) = Bad
 
 unfoldable pub fields : List (List ℕ) → Line

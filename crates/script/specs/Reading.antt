@@ -1,5 +1,6 @@
 -- What the functions of the reader answer at a place of a line, each said by the parts of `Lines`. Assumes nothing.
 use Prim.Native.Nat.{ℕ, _+_}
+use Prim.Native.Char.{code}
 use mathlib.Core.Bool.{cond}
 use mathlib.Core.List.{List, [], _∷_}
 use mathlib.Core.Option.{Option, none, some}
@@ -52,7 +53,7 @@ unfoldable pub afterAt : List ℕ → ℕ → Numbers
 afterAt l at = counted (numbers largest (rest space (drop at l)))
 
 unfoldable pub called : ℕ → ℕ → Numbers → Line
-called letter a Zero = cond (eqb letter 76) (Look a) Bad
-called letter a (One n) = cond (eqb letter 87) (Withdraw a n) Bad
-called letter a (Two n h) = cond (eqb letter 65) (Announce a n h) Bad
+called letter a Zero = cond (eqb letter (code "L")) (Look a) Bad
+called letter a (One n) = cond (eqb letter (code "W")) (Withdraw a n) Bad
+called letter a (Two n h) = cond (eqb letter (code "A")) (Announce a n h) Bad
 called letter a Other = Bad
