@@ -4,3 +4,6 @@ pub mod AddressLaws
 pub mod LineLaws
 pub mod FeedLaws
 pub mod Samples
+pub mod Storing
+pub mod DecimalLaws
+pub mod WritingLaws

@@ -1,5 +1,6 @@
 // The script's text: what a line of bytes asks for, and the bytes of each line that is printed. Everything works on lent
 // bytes in one pass; nothing is kept.
+mod answers;
 mod lines;
 
 pub use lines::Line;

@@ -1,0 +1,61 @@
+-- A number in decimal: its last digit and those before it, and how many there are. Assumes nothing.
+use Prim.Native.Nat.{ℕ, zero, suc, _+_, _*_, _/_, _%_, _^_, _≤_, _<_}
+use native.Mathlib.Nat.{pow-suc, le-trans}
+use native.Mathlib.Numerals.{add-one}
+use native.Mathlib.Omega.{arith}
+use mathlib.Core.Path.{_≡_, refl, sym, ap, _∙_}
+use mathlib.Core.Bool.{Bool, true, false, cond}
+use mathlib.Core.List.{List, [], _∷_, _++_}
+use lib.ListN.{length, length-append}
+use lib.Dec.{ltb}
+use borrow.Author.Tests.{lt-ltb, le-ltb, ltb-false}
+use Rattle.script.specs.Answers.{decimalIn, decimal}
+use Rattle.script.proofs.Splitting.{by-cases}
+
+-- one place more changes nothing where there are enough
+more-places : (k n : ℕ) → n < 10 ^ suc k → decimalIn (suc (suc k)) n ≡ decimalIn (suc k) n
+unfolding decimalIn
+more-places zero n h = rw (lt-ltb n 10 (omega arith))
+more-places (suc k) n h =
+    by-cases (ltb n 10) (λ e. rw e)
+    (λ e.
+    let h′ : n < 10 ^ suc k * 10 = rw pow-suc at h in
+    rw (e, more-places k (n / 10) (omega arith)))
+
+pub decimal-digit : (n : ℕ) → n < 10 → decimal n ≡ (48 + n) ∷ []
+unfolding decimal decimalIn
+decimal-digit n h = rw (lt-ltb n 10 h)
+
+pub decimal-more : (n : ℕ) → 10 ≤ n → n < 2 ^ 32 → decimal n ≡ decimal (n / 10) ++ ((48 + n % 10) ∷ [])
+unfolding decimal
+decimal-more n h k = last-digit ∙ rw (more-places 8 (n / 10) (omega arith))
+  where
+    last-digit : decimalIn 10 n ≡ decimalIn 9 (n / 10) ++ ((48 + n % 10) ∷ [])
+    last-digit = unfold decimalIn in rw (le-ltb n 10 h)
+
+-- ---- how many digits
+
+at-most : (places n : ℕ) → length (decimalIn places n) ≤ places
+unfolding decimalIn
+at-most zero n = omega arith
+at-most (suc k) n =
+    by-cases (ltb n 10) (λ e. rw e (omega arith))
+    (λ e. rw (e, length-append) (omega (arith, at-most k (n / 10))))
+
+pub ten-digits : (n : ℕ) → length (decimal n) ≤ 10
+unfolding decimal
+ten-digits n = at-most 10 n
+
+few-digits : (j places n : ℕ) → n < 10 ^ suc j → length (decimalIn places n) ≤ suc j
+unfolding decimalIn
+few-digits j zero n h = omega arith
+few-digits zero (suc k) n h = rw (lt-ltb n 10 (omega arith)) (omega arith)
+few-digits (suc j) (suc k) n h =
+    by-cases (ltb n 10) (λ e. rw e (omega arith))
+    (λ e.
+    let h′ : n < 10 ^ suc j * 10 = rw pow-suc at h in
+    rw (e, length-append) (omega (arith, few-digits j k (n / 10) (omega arith))))
+
+pub three-digits : (n : ℕ) → n < 256 → length (decimal n) ≤ 3
+unfolding decimal
+three-digits n h = few-digits 2 10 n (omega arith)

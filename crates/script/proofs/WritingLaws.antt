@@ -1,0 +1,68 @@
+-- One law for each answer of the functions that write. Assumes nothing.
+use Prim.Native.Nat.{ℕ, zero, suc, _+_, _*_, _/_, _%_, _^_, _≤_, _<_}
+use native.Mathlib.Nat.{add-zero}
+use native.Mathlib.Numerals.{add-one}
+use native.Mathlib.Omega.{arith}
+use mathlib.Core.Path.{_≡_, refl, sym, ap, _∙_}
+use mathlib.Core.List.{List, [], _∷_, _++_}
+use lib.ListN.{length, set, take, getD, length-append, length-set}
+use lib.Seq.{sets, take-suc, length-take-le, take-all}
+use Rattle.script.specs.Answers.{decimal}
+use Rattle.script.specs.Writing.{Written}
+use Rattle.script.proofs.Storing.{sets-append}
+use Rattle.script.proofs.DecimalLaws.{decimal-digit, decimal-more}
+
+-- ---- a number
+
+module _ (l : List ℕ) (at n : ℕ) where
+  module _ (small : n < 10) where
+    pub room-for-digit : at + length (decimal n) ≤ length l → at < length l
+    room-for-digit h = let k : at + 1 ≤ length l = rw (decimal-digit n small) at h in omega arith
+
+    pub wrote-digit : Written l (set l at (48 + n)) at (decimal n) (at + 1)
+    wrote-digit = record { stored = rw (decimal-digit n small); ended = rw (decimal-digit n small) }
+
+  module _ (large : 10 ≤ n) (fits : n < 2 ^ 32) where
+    more-digits : length (decimal n) ≡ length (decimal (n / 10)) + 1
+    more-digits = rw (decimal-more n large fits, length-append)
+
+    module _ (room : at + length (decimal n) ≤ length l) where
+      pub room-before : at + length (decimal (n / 10)) ≤ length l
+      room-before = omega (arith, more-digits)
+
+      module _ (m : List ℕ) (last : ℕ) (w : Written l m at (decimal (n / 10)) last) (kept : length m ≡ length l) where
+        pub room-for-last : last < length m
+        room-for-last = omega (arith, more-digits, w .ended)
+
+        pub next-fits : length l < 2 ^ 64 → last + 1 < 2 ^ 64
+        next-fits h = omega (arith, room-for-last)
+
+    pub wrote-more : (m : List ℕ) (last : ℕ) → Written l m at (decimal (n / 10)) last → Written l (set m last (48 + n % 10)) at (decimal n) (last + 1)
+    wrote-more m last w = record {
+      stored = rw (w .stored, w .ended, decimal-more n large fits, sets-append);
+      ended = rw (w .ended) (omega (arith, more-digits));
+    }
+
+-- ---- a word: i of its bytes are stored
+
+module _ (l w : List ℕ) (at : ℕ) where
+  pub record Copied (out : List ℕ) (i : ℕ) : Type 0 where
+    pub stored : out ≡ sets l at (take i w)
+    pub inside : i ≤ length w
+    pub kept : length out ≡ length l
+
+  pub none-copied : Copied l 0
+  none-copied = record { stored = refl; inside = omega arith; kept = refl }
+
+  module _ (out : List ℕ) (i : ℕ) (h : Copied out i) where
+    pub copied-more : i < length w → Copied (set out (at + i) (getD w i 0)) (i + 1)
+    copied-more k = record {
+      stored = rw (h .stored, add-one, take-suc w i 0 k, sets-append, length-take-le i w (h .inside));
+      inside = omega arith;
+      kept = length-set out (at + i) (getD w i 0) ∙ h .kept;
+    }
+
+    pub wrote-word : length w ≤ i → Written l out at w (at + i)
+    wrote-word k =
+        let e : i ≡ length w = omega (arith, h .inside) in
+        record { stored = h .stored ∙ ap (sets l at) (take-all i w k); ended = rw e }
