@@ -10,7 +10,7 @@ use lib.Seq.{sets, take-suc, length-take-le, take-all}
 use Rattle.script.specs.Answers.{decimal}
 use Rattle.script.specs.Writing.{Written}
 use Rattle.script.proofs.Storing.{sets-append}
-use Rattle.script.proofs.DecimalLaws.{decimal-digit, decimal-more}
+use Rattle.script.proofs.DecimalLaws.{decimal-digit, decimal-more, ten-digits}
 
 -- ---- a number
 
@@ -66,3 +66,20 @@ module _ (l w : List ℕ) (at : ℕ) where
     wrote-word k =
         let e : i ≡ length w = omega (arith, h .inside) in
         record { stored = h .stored ∙ ap (sets l at) (take-all i w k); ended = rw e }
+
+-- ---- one after the other
+
+pub wrote-both : {l m q : List ℕ} {at i r : ℕ} {x y : List ℕ} → Written l m at x i → Written m q i y r → Written l q at (x ++ y) r
+wrote-both {l} {m} {q} {at} {i} {r} {x} {y} v w = record {
+  stored = rw (w .stored, v .stored, v .ended, sets-append x l y at);
+  ended = rw (w .ended, v .ended, length-append) (omega arith);
+}
+
+-- ---- a word and a number
+
+module _ (l m w : List ℕ) (at i n : ℕ) (v : Written l m at w i) where
+  pub room-for-number : length m ≡ length l → at + length w + 10 ≤ length l → i + length (decimal n) ≤ length m
+  room-for-number k h = omega (arith, ten-digits n, v .ended)
+
+  pub number-ends : (q : List ℕ) (r : ℕ) → Written m q i (decimal n) r → r ≤ at + length w + 10
+  number-ends q r u = omega (arith, ten-digits n, v .ended, u .ended)

@@ -5,12 +5,16 @@
 -- have no leading zeros, and each line ends in a line feed." Assumes nothing.
 use Prim.Native.Nat.{ℕ, zero, suc, _+_, _/_, _%_, _^_}
 use Prim.Native.Char.{code}
+use Prim.Native.String.{String}
+use mathlib.Core.Path.{_≡_}
 use mathlib.Core.Bool.{cond}
 use mathlib.Core.List.{List, [], _∷_, _++_}
 use lib.ListN.{length}
 use lib.Seq.{sets}
 use lib.Dec.{leb, ltb}
 use Rattle.script.specs.Text.{text}
+use Rattle.script.specs.declared.answers.Said.{Said}
+use Rattle.script.specs.declared.answers.Said.the-variants.{Done, Hit, Miss, Drop, Refused, Bad, Tallies}
 
 unfoldable pub decimalIn : ℕ → ℕ → List ℕ
 decimalIn zero n = []
@@ -21,13 +25,32 @@ decimalIn (suc places) n =
 unfoldable pub decimal : ℕ → List ℕ
 decimal n = decimalIn 10 n
 
--- an address, the first octet highest
+-- a word, with its space, and a number
+unfoldable pub said : String → ℕ → List ℕ
+said word n = text word ++ decimal n
+
+-- the first octet highest
 unfoldable pub dotted : ℕ → List ℕ
-dotted a =
-    decimal (a / 2 ^ 24)
-    ++ text "."
-    ++ decimal (a / 2 ^ 16 % 256)
-    ++ text "."
-    ++ decimal (a / 2 ^ 8 % 256)
-    ++ text "."
-    ++ decimal (a % 256)
+dotted a = decimal (a / 2 ^ 24) ++ said "." (a / 2 ^ 16 % 256) ++ said "." (a / 2 ^ 8 % 256) ++ said "." (a % 256)
+
+unfoldable pub answerOf : Said → List ℕ
+answerOf (Done removed changed) = said "ok " removed ++ said " " changed ++ text "\n"
+answerOf (Hit hop) = said "hit " hop ++ text "\n"
+answerOf (Miss hop address long examined) =
+    said "miss " hop ++ text " " ++ dotted address ++ said "/" long ++ said " " examined ++ text "\n"
+answerOf (Drop examined) = said "drop " examined ++ text "\n"
+answerOf (Refused number) = said "refused " number ++ text "\n"
+answerOf Bad = text "bad\n"
+answerOf (Tallies hits misses drops) = said "hits " hits ++ said " misses " misses ++ said " drops " drops ++ text "\n"
+
+-- ---- in a lent buffer
+
+-- no line is longer
+abbrev pub room : ℕ
+room = 64
+
+-- the line is stored from the place on, and next is the place after it; or there is no room from the place on, and nothing is
+-- stored
+pub record Printed (s : Said) (at : ℕ) (entry exit : List ℕ) (next : ℕ) : Type 0 where
+  pub stored : exit ≡ cond (leb (at + room) (length entry)) (sets entry at (answerOf s)) entry
+  pub ended : next ≡ cond (leb (at + room) (length entry)) (at + length (answerOf s)) at

@@ -3,6 +3,7 @@
 mod answers;
 mod lines;
 
+pub use answers::Said;
 pub use lines::Line;
 pub use lines::Next;
 pub use lines::next_feed;

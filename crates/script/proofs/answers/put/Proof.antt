@@ -1,0 +1,24 @@
+-- `script::answers::put` meets its contract. Assumes nothing.
+use Rattle.script.proofs.WritingLaws.{wrote-both, room-for-number, number-ends}
+use borrow.Author.Needs.{needs}
+use Rattle.script.proofs.answers.put.Statement.{statement}
+use Rattle.script.proofs.answers.put.Tie as tie
+use Rattle.script.proofs.answers.put.Reads as reads
+use Rattle.script.proofs.answers.put.Lts as lts
+use Rattle.script.proofs.answers.put_number.Reads as put-number-reads
+use Rattle.script.proofs.answers.put_word.Reads as put-word-reads
+
+put-word-requires : tie.Need-put-word-requires
+put-word-requires c κs = search needs
+
+put-number-requires : tie.Need-put-number-requires
+put-number-requires c κs = search (needs, room-for-number)
+
+same-length : tie.Need-same-length
+same-length c = search needs
+
+returns : tie.Need-returns
+returns c = search (needs, wrote-both, number-ends)
+
+pub put-spec : {M : Type 1} → statement M
+put-spec = tie.close (tie.spec put-word-requires put-number-requires same-length returns)
