@@ -19,7 +19,7 @@ lines (s ∷ l) = lineOf (text s) ∷ lines l
 
 -- all that a claim has to open
 unfoldable computing : Unit {0}
-unfolding ip lines text digit digits valueFrom numberFrom number onto parts both numbers four address only call fields lineOf
+unfolding ip lines digit digits valueFrom numberFrom number onto parts both numbers four address only call fields lineOf
 computing = tt
 
 worked-run :

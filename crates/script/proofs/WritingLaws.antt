@@ -7,10 +7,11 @@ use mathlib.Core.Path.{_≡_, refl, sym, ap, _∙_}
 use mathlib.Core.List.{List, [], _∷_, _++_}
 use lib.ListN.{length, set, take, getD, length-append, length-set}
 use lib.Seq.{sets, take-suc, length-take-le, take-all}
-use Rattle.script.specs.Answers.{decimal}
+use Rattle.script.specs.Answers.{decimal, said, dotted}
+use Rattle.script.specs.Text.{text}
 use Rattle.script.specs.Writing.{Written}
 use Rattle.script.proofs.Storing.{sets-append}
-use Rattle.script.proofs.DecimalLaws.{decimal-digit, decimal-more, ten-digits}
+use Rattle.script.proofs.DecimalLaws.{decimal-digit, decimal-more, ten-digits, three-digits}
 
 -- ---- a number
 
@@ -83,3 +84,18 @@ module _ (l m w : List ℕ) (at i n : ℕ) (v : Written l m at w i) where
 
   pub number-ends : (q : List ℕ) (r : ℕ) → Written m q i (decimal n) r → r ≤ at + length w + 10
   number-ends q r u = omega (arith, ten-digits n, v .ended, u .ended)
+
+-- ---- an address
+
+pub octet-ends : (l m mark : List ℕ) (at n r : ℕ) → Written l m at (mark ++ decimal n) r → length mark ≡ 1 → n ≤ 255 → r ≤ at + 4
+octet-ends l m mark at n r w one small = omega (arith, three-digits n (omega arith), w .ended, length-append mark (decimal n))
+
+pub wrote-address :
+    {l m₁ m₂ m₃ q : List ℕ} {at i j k r : ℕ} (a : ℕ)
+    → Written l m₁ at (text " " ++ decimal (a / 16777216)) i
+    → Written m₁ m₂ i (said "." (a / 65536 % 256)) j
+    → Written m₂ m₃ j (said "." (a / 256 % 256)) k
+    → Written m₃ q k (said "." (a % 256)) r
+    → Written l q at (text " " ++ dotted a) r
+unfolding dotted
+wrote-address a w₁ w₂ w₃ w₄ = wrote-both (wrote-both (wrote-both w₁ w₂) w₃) w₄

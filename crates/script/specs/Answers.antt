@@ -26,7 +26,7 @@ unfoldable pub decimal : ℕ → List ℕ
 decimal n = decimalIn 10 n
 
 -- a word, with its space, and a number
-unfoldable pub said : String → ℕ → List ℕ
+abbrev pub said : String → ℕ → List ℕ
 said word n = text word ++ decimal n
 
 -- the first octet highest

@@ -6,6 +6,6 @@ use Prim.Native.String
 use mathlib.Core.List.{List, [], _∷_}
 
 -- the bytes of a text in ASCII
-unfoldable pub text : String → List ℕ
+abbrev pub text : String → List ℕ
 text String.[] = []
 text (String._∷_ c s) = code c ∷ text s

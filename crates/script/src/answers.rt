@@ -4,7 +4,7 @@ ghost use Prim.Native.Nat.{_+_, _≤_};
 ghost use mathlib.Core.List.{_++_};
 ghost use lib.ListN.{length};
 ghost use Rattle.script.specs.Text.{text};
-ghost use Rattle.script.specs.Answers.{decimal};
+ghost use Rattle.script.specs.Answers.{decimal, dotted, answerOf, Printed};
 ghost use Rattle.script.specs.Writing.{Written};
 
 const ROOM: usize = 64;
@@ -61,4 +61,25 @@ fn put(out: &mut [u8], at: usize, word: &[u8], n: u32) -> usize
 {
     let i = put_word(out, at, word);
     put_number(out, i, n)
+}
+
+// A mark and an octet.
+fn put_octet(out: &mut [u8], at: usize, mark: &[u8], octet: u32) -> usize
+    requires { ⌜ (at + 11 ≤ length (now out)) × (length (now mark) ≡ 1) × (octet ≤ 255) ⌝ }
+    ensures { λ r. ⌜ Written (now (out .entry)) (now (out .exit)) at (now (mark .entry) ++ decimal octet) r ⌝ }
+    ensures { λ r. ⌜ r ≤ at + 4 ⌝ }
+{
+    put(out, at, mark, octet)
+}
+
+// A space and an address.
+fn put_address(out: &mut [u8], at: usize, address: u32) -> usize
+    requires { ⌜ at + 23 ≤ length (now out) ⌝ }
+    ensures { λ r. ⌜ Written (now (out .entry)) (now (out .exit)) at (text " " ++ dotted address) r ⌝ }
+    ensures { λ r. ⌜ r ≤ at + 16 ⌝ }
+{
+    let i = put_octet(out, at, b" ", address / 16_777_216);
+    let j = put_octet(out, i, b".", address / 65_536 % 256);
+    let k = put_octet(out, j, b".", address / 256 % 256);
+    put_octet(out, k, b".", address % 256)
 }

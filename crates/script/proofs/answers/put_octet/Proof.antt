@@ -1,0 +1,20 @@
+-- `script::answers::put_octet` meets its contract. Assumes nothing.
+use Rattle.script.proofs.WritingLaws.{octet-ends}
+use borrow.Author.Needs.{needs}
+use Rattle.script.proofs.answers.put_octet.Statement.{statement}
+use Rattle.script.proofs.answers.put_octet.Tie as tie
+use Rattle.script.proofs.answers.put_octet.Reads as reads
+use Rattle.script.proofs.answers.put_octet.Lts as lts
+use Rattle.script.proofs.answers.put.Reads as put-reads
+
+put-requires : tie.Need-put-requires
+put-requires c κs = search needs
+
+same-length : tie.Need-same-length
+same-length c = search needs
+
+returns : tie.Need-returns
+returns c = search (needs, octet-ends)
+
+pub put-octet-spec : {M : Type 1} → statement M
+put-octet-spec = tie.close (tie.spec put-requires same-length returns)
