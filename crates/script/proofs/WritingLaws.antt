@@ -1,15 +1,18 @@
 -- One law for each answer of the functions that write. Assumes nothing.
-use Prim.Native.Nat.{ℕ, zero, suc, _+_, _*_, _/_, _%_, _^_, _≤_, _<_}
+use Prim.Native.Nat.{ℕ, zero, suc, _+_, _-_, _*_, _/_, _%_, _^_, _≤_, _<_}
 use native.Mathlib.Nat.{add-zero}
 use native.Mathlib.Numerals.{add-one}
 use native.Mathlib.Omega.{arith}
 use mathlib.Core.Path.{_≡_, refl, sym, ap, _∙_}
-use mathlib.Core.List.{List, [], _∷_, _++_}
+use mathlib.Core.List.{List, [], _∷_, _++_, append-assoc}
 use lib.ListN.{length, set, take, getD, length-append, length-set}
 use lib.Seq.{sets, take-suc, length-take-le, take-all}
-use Rattle.script.specs.Answers.{decimal, said, dotted}
+use borrow.Author.Tests.{le-leb, lt-leb}
+use Rattle.script.specs.Answers.{decimal, said, dotted, answerOf, room, Printed}
 use Rattle.script.specs.Text.{text}
 use Rattle.script.specs.Writing.{Written}
+use Rattle.script.specs.declared.answers.Said.{Said}
+use Rattle.script.specs.declared.answers.Said.the-variants.{Done, Hit, Miss, Drop, Refused, Bad, Tallies}
 use Rattle.script.proofs.Storing.{sets-append}
 use Rattle.script.proofs.DecimalLaws.{decimal-digit, decimal-more, ten-digits, three-digits}
 
@@ -99,3 +102,61 @@ pub wrote-address :
     → Written l q at (text " " ++ dotted a) r
 unfolding dotted
 wrote-address a w₁ w₂ w₃ w₄ = wrote-both (wrote-both (wrote-both w₁ w₂) w₃) w₄
+
+-- ---- the lines
+
+module _ {l m₁ m₂ : List ℕ} {at i j : ℕ} where
+  module _ {m₃ : List ℕ} {k : ℕ} where
+    pub wrote-done : (r c : ℕ) → Written l m₁ at (said "ok " r) i → Written m₁ m₂ i (said " " c) j → Written m₂ m₃ j (text "\n") k → Written l m₃ at (answerOf (Done r c)) k
+    unfolding answerOf
+    wrote-done r c w₁ w₂ w₃ = wrote-both (wrote-both w₁ w₂) w₃
+
+    module _ {m₄ : List ℕ} {n : ℕ} where
+      pub wrote-tallies : (h m d : ℕ) → Written l m₁ at (said "hits " h) i → Written m₁ m₂ i (said " misses " m) j → Written m₂ m₃ j (said " drops " d) k → Written m₃ m₄ k (text "\n") n → Written l m₄ at (answerOf (Tallies h m d)) n
+      unfolding answerOf
+      wrote-tallies h m d w₁ w₂ w₃ w₄ = wrote-both (wrote-both (wrote-both w₁ w₂) w₃) w₄
+
+      pub wrote-miss : {m₅ : List ℕ} {o : ℕ} (h a b x : ℕ) → Written l m₁ at (said "miss " h) i → Written m₁ m₂ i (text " " ++ dotted a) j → Written m₂ m₃ j (said "/" b) k → Written m₃ m₄ k (said " " x) n → Written m₄ m₅ n (text "\n") o → Written l m₅ at (answerOf (Miss h a b x)) o
+      unfolding answerOf
+      wrote-miss h a b x w₁ w₂ w₃ w₄ w₅ = let w = wrote-both (wrote-both (wrote-both (wrote-both w₁ w₂) w₃) w₄) w₅ in rw (append-assoc (decimal h) (text " ") (dotted a)) w
+
+module _ (s : Said) (at : ℕ) (l : List ℕ) where
+  nothing : length l < at + room → Printed s at l l at
+  nothing h = record { stored = rw (lt-leb _ _ h); ended = rw (lt-leb _ _ h) }
+
+  pub short-buffer : length l < room → Printed s at l l at
+  short-buffer h = nothing (omega arith)
+
+  pub no-room : room ≤ length l → length l - room < at → Printed s at l l at
+  no-room k h = nothing (omega arith)
+
+  module _ (long : room ≤ length l) (inside : at ≤ length l - room) (q : List ℕ) (r : ℕ) where
+    printed : {t : Said} → s ≡ t → Written l q at (answerOf t) r → Printed s at l q r
+    printed e w =
+        let h : at + room ≤ length l = omega arith in
+        record { stored = rw (le-leb _ _ h, e) (w .stored); ended = rw (le-leb _ _ h, e) (w .ended) }
+
+    pub printed-done : (removed changed : ℕ) → s ≡ Done removed changed → Written l q at (answerOf (Done removed changed)) r → Printed s at l q r
+    printed-done removed changed e w = printed e w
+
+    pub printed-hit : (hop : ℕ) → s ≡ Hit hop → Written l q at (said "hit " hop ++ text "\n") r → Printed s at l q r
+    unfolding answerOf
+    printed-hit hop e w = printed e w
+
+    pub printed-miss : (h a b x : ℕ) → s ≡ Miss h a b x → Written l q at (answerOf (Miss h a b x)) r → Printed s at l q r
+    printed-miss h a b x e w = printed e w
+
+    pub printed-drop : (examined : ℕ) → s ≡ Drop examined → Written l q at (said "drop " examined ++ text "\n") r → Printed s at l q r
+    unfolding answerOf
+    printed-drop examined e w = printed e w
+
+    pub printed-refused : (number : ℕ) → s ≡ Refused number → Written l q at (said "refused " number ++ text "\n") r → Printed s at l q r
+    unfolding answerOf
+    printed-refused number e w = printed e w
+
+    pub printed-bad : s ≡ Bad → Written l q at (text "bad\n") r → Printed s at l q r
+    unfolding answerOf
+    printed-bad e w = printed e w
+
+    pub printed-tallies : (h m d : ℕ) → s ≡ Tallies h m d → Written l q at (answerOf (Tallies h m d)) r → Printed s at l q r
+    printed-tallies h m d e w = printed e w

@@ -4,7 +4,7 @@ ghost use Prim.Native.Nat.{_+_, _≤_};
 ghost use mathlib.Core.List.{_++_};
 ghost use lib.ListN.{length};
 ghost use Rattle.script.specs.Text.{text};
-ghost use Rattle.script.specs.Answers.{decimal, dotted, answerOf, Printed};
+ghost use Rattle.script.specs.Answers.{decimal, dotted, answerOf, room, Printed};
 ghost use Rattle.script.specs.Writing.{Written};
 
 const ROOM: usize = 64;
@@ -82,4 +82,68 @@ fn put_address(out: &mut [u8], at: usize, address: u32) -> usize
     let j = put_octet(out, i, b".", address / 65_536 % 256);
     let k = put_octet(out, j, b".", address / 256 % 256);
     put_octet(out, k, b".", address % 256)
+}
+
+// ---- the lines
+
+fn put_done(out: &mut [u8], at: usize, removed: u32, changed: u32) -> usize
+    requires { ⌜ at + room ≤ length (now out) ⌝ }
+    ensures { λ r. ⌜ Written (now (out .entry)) (now (out .exit)) at (answerOf (Said.Done removed changed)) r ⌝ }
+{
+    let i = put(out, at, b"ok ", removed);
+    let j = put(out, i, b" ", changed);
+    put_word(out, j, b"\n")
+}
+
+fn put_miss(out: &mut [u8], at: usize, hop: u32, address: u32, bits: u32, examined: u32) -> usize
+    requires { ⌜ at + room ≤ length (now out) ⌝ }
+    ensures { λ r. ⌜ Written (now (out .entry)) (now (out .exit)) at (answerOf (Said.Miss hop address bits examined)) r ⌝ }
+{
+    let i = put(out, at, b"miss ", hop);
+    let j = put_address(out, i, address);
+    let k = put(out, j, b"/", bits);
+    let m = put(out, k, b" ", examined);
+    put_word(out, m, b"\n")
+}
+
+fn put_tallies(out: &mut [u8], at: usize, hits: u32, misses: u32, drops: u32) -> usize
+    requires { ⌜ at + room ≤ length (now out) ⌝ }
+    ensures { λ r. ⌜ Written (now (out .entry)) (now (out .exit)) at (answerOf (Said.Tallies hits misses drops)) r ⌝ }
+{
+    let i = put(out, at, b"hits ", hits);
+    let j = put(out, i, b" misses ", misses);
+    let k = put(out, j, b" drops ", drops);
+    put_word(out, k, b"\n")
+}
+
+// A line of a word and one number.
+fn put_one(out: &mut [u8], at: usize, word: &[u8], n: u32) -> usize
+    requires { ⌜ (at + room ≤ length (now out)) × (length (now word) ≤ 8) ⌝ }
+    ensures { λ r. ⌜ Written (now (out .entry)) (now (out .exit)) at (now (word .entry) ++ decimal n ++ text "\n") r ⌝ }
+{
+    let i = put(out, at, word, n);
+    put_word(out, i, b"\n")
+}
+
+// Writes a line from a place on, and answers the place after it. Where fewer than 64 bytes are left, nothing is written and the
+// place itself is answered.
+pub fn write_line(out: &mut [u8], at: usize, said: Said) -> usize
+    ensures { λ r. ⌜ Printed said at (now (out .entry)) (now (out .exit)) r ⌝ }
+{
+    let length = out.len();
+    if length < ROOM {
+        return at;
+    }
+    if length - ROOM < at {
+        return at;
+    }
+    match said {
+        Said::Done(removed, changed) => put_done(out, at, removed, changed),
+        Said::Hit(hop) => put_one(out, at, b"hit ", hop),
+        Said::Miss(hop, address, bits, examined) => put_miss(out, at, hop, address, bits, examined),
+        Said::Drop(examined) => put_one(out, at, b"drop ", examined),
+        Said::Refused(number) => put_one(out, at, b"refused ", number),
+        Said::Bad => put_word(out, at, b"bad\n"),
+        Said::Tallies(hits, misses, drops) => put_tallies(out, at, hits, misses, drops),
+    }
 }

@@ -4,6 +4,7 @@ mod answers;
 mod lines;
 
 pub use answers::Said;
+pub use answers::write_line;
 pub use lines::Line;
 pub use lines::Next;
 pub use lines::next_feed;
