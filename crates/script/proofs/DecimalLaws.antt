@@ -9,7 +9,9 @@ use mathlib.Core.List.{List, [], _∷_, _++_}
 use lib.ListN.{length, length-append}
 use lib.Dec.{ltb}
 use borrow.Author.Tests.{lt-ltb, le-ltb, ltb-false}
-use Rattle.script.specs.Answers.{decimalIn, decimal}
+use Rattle.script.specs.Answers.{decimalIn, decimal, dotted, answerOf, room}
+use Rattle.script.specs.declared.answers.Said.{Said}
+use Rattle.script.specs.declared.answers.Said.the-variants.{Done, Hit, Miss, Drop, Refused, Bad, Tallies}
 use Rattle.script.proofs.Splitting.{by-cases}
 
 -- one place more changes nothing where there are enough
@@ -59,3 +61,23 @@ few-digits (suc j) (suc k) n h =
 pub three-digits : (n : ℕ) → n < 256 → length (decimal n) ≤ 3
 unfolding decimal
 three-digits n h = few-digits 2 10 n (omega arith)
+
+pub dotted-length : (a : ℕ) → length (dotted a) ≤ 22
+unfolding dotted
+dotted-length a =
+    simp length-append
+    (omega (arith, ten-digits (a / 2 ^ 24), three-digits (a / 2 ^ 16 % 256) (omega arith), three-digits (a / 2 ^ 8 % 256) (omega arith), three-digits (a % 256) (omega arith)))
+
+-- no line that is printed is longer than the room that it asks for
+pub line-fits : (s : Said) → length (answerOf s) ≤ room
+unfolding answerOf
+line-fits (Done removed changed) = simp length-append (omega (arith, ten-digits removed, ten-digits changed))
+line-fits (Hit hop) = simp length-append (omega (arith, ten-digits hop))
+line-fits (Miss hop address long examined) =
+    simp length-append
+    (omega (arith, ten-digits hop, dotted-length address, ten-digits long, ten-digits examined))
+line-fits (Drop examined) = simp length-append (omega (arith, ten-digits examined))
+line-fits (Refused number) = simp length-append (omega (arith, ten-digits number))
+line-fits Bad = omega arith
+line-fits (Tallies hits misses drops) =
+    simp length-append (omega (arith, ten-digits hits, ten-digits misses, ten-digits drops))

@@ -7,3 +7,4 @@ pub mod Samples
 pub mod Storing
 pub mod DecimalLaws
 pub mod WritingLaws
+pub mod Inverse
