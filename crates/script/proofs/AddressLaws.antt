@@ -1,20 +1,20 @@
 -- One law for each answer of the functions that read an address. Assumes nothing.
 use Prim.Native.Nat.{ℕ, suc, _+_, _-_, _*_, _≤_, _<_}
 use native.Mathlib.Omega.{arith}
-use mathlib.Core.Path.{_≡_, refl, sym, ap, _∙_}
+use mathlib.Core.Path.{_≡_, refl, sym, _∙_}
 use mathlib.Core.Bool.{Bool, true, false, cond, _&&_}
 use mathlib.Core.List.{List, [], _∷_}
-use mathlib.Core.Logic.{_⊎_, inl, inr, ⊎-elim}
+use mathlib.Core.Logic.{⊎-elim}
 use mathlib.Core.Option.{Option, none, some}
 use lib.ListN.{length, drop, length-drop}
 use lib.Seq.{drop-drop}
 use lib.Dec.{leb, ltb}
-use borrow.Author.Tests.{lt-ltb, le-ltb, ltb-true, ltb-false, leb-true}
+use borrow.Author.Tests.{lt-ltb, le-ltb, ltb-true, leb-true}
 use Rattle.script.specs.Lines.{digits, valueFrom, numberFrom, number, both, numbers, parts, four, address, space, point}
 use Rattle.script.specs.Blocks.{before, endOf}
-use Rattle.script.specs.Reading.{rest, ended, partAt, pointed, octetAt, addressAt}
+use Rattle.script.specs.Reading.{ended, partAt, pointed, octetAt, addressAt}
 use Rattle.script.proofs.PartLaws.{ended-told, ended-none}
-use Rattle.script.proofs.Splitting.{by-cases, both-true, split-first, one-part, Octet, one-or-more, Pointed, first-octet}
+use Rattle.script.proofs.Splitting.{by-cases, both-true, split-first, one-part, Octet, one-or-more, first-octet}
 use Rattle.script.specs.declared.lines.Found.{Found}
 use Rattle.script.specs.declared.lines.Found.the-variants.{Number, Nothing}
 

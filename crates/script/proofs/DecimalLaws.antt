@@ -1,14 +1,12 @@
 -- A number in decimal: its last digit and those before it, and how many there are. Assumes nothing.
 use Prim.Native.Nat.{ℕ, zero, suc, _+_, _*_, _/_, _%_, _^_, _≤_, _<_}
-use native.Mathlib.Nat.{pow-suc, le-trans}
-use native.Mathlib.Numerals.{add-one}
+use native.Mathlib.Nat.{pow-suc}
 use native.Mathlib.Omega.{arith}
-use mathlib.Core.Path.{_≡_, refl, sym, ap, _∙_}
-use mathlib.Core.Bool.{Bool, true, false, cond}
-use mathlib.Core.List.{List, [], _∷_, _++_}
+use mathlib.Core.Path.{_≡_, _∙_}
+use mathlib.Core.List.{[], _∷_, _++_}
 use lib.ListN.{length, length-append}
 use lib.Dec.{ltb}
-use borrow.Author.Tests.{lt-ltb, le-ltb, ltb-false}
+use borrow.Author.Tests.{lt-ltb, le-ltb}
 use Rattle.script.specs.Answers.{decimalIn, decimal, dotted, answerOf, room}
 use Rattle.script.specs.declared.answers.Said.{Said}
 use Rattle.script.specs.declared.answers.Said.the-variants.{Done, Hit, Miss, Drop, Refused, Bad, Tallies}

@@ -1,14 +1,13 @@
 -- One law for each answer of the search for a line feed, and for the turn that goes on from i. Assumes nothing.
-use Prim.Native.Nat.{ℕ, suc, _+_, _≤_, _<_}
+use Prim.Native.Nat.{ℕ, _+_, _≤_, _<_}
 use native.Mathlib.Nat.{add-zero, add-suc, suc-add}
 use native.Mathlib.Numerals.{add-one}
-use mathlib.Core.Path.{_≡_, refl, sym, _∙_}
+use mathlib.Core.Path.{_≡_, refl, _∙_}
 use mathlib.Core.List.{List}
 use lib.ListN.{length, getD, drop-of-length-le}
 use lib.Seq.{drop-cons}
 use borrow.Author.Tests.{lt-ltb, le-ltb, eq-eqb, ne-eqb}
 use Rattle.script.specs.Blocks.{before, endOf, feed, feedAt}
-use Rattle.script.specs.declared.lines.Next.{Next}
 use Rattle.script.specs.declared.lines.Next.the-variants.{At, None}
 
 module _ (l : List ℕ) (from i : ℕ) (same : endOf feed l i ≡ endOf feed l from) where

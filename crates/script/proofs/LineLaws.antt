@@ -1,18 +1,18 @@
 -- One law for each answer of the functions that read a whole line. Assumes nothing.
-use Prim.Native.Nat.{ℕ, zero, suc, _+_, _≤_, _<_}
+use Prim.Native.Nat.{ℕ, _+_, _≤_, _<_}
 use native.Mathlib.Omega.{arith}
 use native.Mathlib.Numerals.{add-one}
-use mathlib.Core.Path.{_≡_, refl, sym, ap, _∙_}
-use mathlib.Core.Bool.{Bool, true, false, cond}
+use mathlib.Core.Path.{_≡_, refl, sym, _∙_}
+use mathlib.Core.Bool.{false}
 use mathlib.Core.List.{List, [], _∷_}
 use mathlib.Core.Option.{Option, none, some}
 use lib.ListN.{length, drop, getD, drop-of-length-le}
 use lib.Seq.{drop-cons, drop-drop}
-use lib.Dec.{leb, eqb}
+use lib.Dec.{eqb}
 use borrow.Author.Tests.{le-leb, lt-leb, eq-eqb, ne-eqb, eqb-true, eqb-false}
-use Rattle.script.specs.Lines.{number, both, numbers, parts, onto, four, address, only, call, fields, lineOf, largest, longest, space, point}
+use Rattle.script.specs.Lines.{number, both, numbers, parts, onto, four, address, only, call, fields, lineOf, largest, longest, space}
 use Rattle.script.specs.Blocks.{before, endOf}
-use Rattle.script.specs.Reading.{rest, ended, partAt, addressAt, counted, afterAt, called}
+use Rattle.script.specs.Reading.{rest, partAt, addressAt, counted, afterAt, called}
 use Rattle.script.proofs.PartLaws.{ended-told, ended-none}
 use Rattle.script.proofs.Splitting.{by-cases, split-first}
 use Rattle.script.specs.declared.lines.Line.{Line}

@@ -1,20 +1,18 @@
 -- One law for each way through a turn of the reader's loop: the number that the part holds, after digits of the value v. Assumes nothing.
-use Prim.Native.Nat.{ℕ, zero, suc, _+_, _-_, _*_, _≤_, _<_}
+use Prim.Native.Nat.{ℕ, suc, _+_, _-_, _*_, _≤_, _<_}
 use native.Mathlib.Nat.{add-zero, add-suc, suc-add, le-trans, lt-of-lt-of-le}
 use native.Mathlib.Numerals.{add-one}
 use native.Mathlib.Omega.{arith}
-use mathlib.Core.Path.{_≡_, refl, sym, ap, _∙_}
-use mathlib.Core.Bool.{Bool, true, false, cond, _&&_, and-false}
+use mathlib.Core.Path.{_≡_, refl, sym, _∙_}
+use mathlib.Core.Bool.{and-false}
 use mathlib.Core.List.{List, [], _∷_}
 use mathlib.Core.Option.{Option, none, some}
 use lib.ListN.{length, drop, getD, drop-of-length-le}
 use lib.Seq.{drop-cons}
-use lib.Dec.{leb, eqb}
 use borrow.Author.Tests.{le-leb, lt-leb, eq-eqb, ne-eqb}
 use Rattle.script.specs.Lines.{digit, digits, valueFrom, numberFrom, number}
 use Rattle.script.specs.Blocks.{before, endOf}
 use Rattle.script.specs.Reading.{ended, partAt, partFrom}
-use Rattle.script.specs.declared.lines.Found.{Found}
 use Rattle.script.specs.declared.lines.Found.the-variants.{Number, Nothing}
 
 -- a value only grows

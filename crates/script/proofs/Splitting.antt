@@ -1,19 +1,15 @@
 -- What splitting at a mark leaves: the part before the first mark, and the parts after it. Assumes nothing.
-use Prim.Native.Nat.{ℕ, zero, suc, _+_, _≤_, _<_}
+use Prim.Native.Nat.{ℕ, suc, _+_, _≤_, _<_}
 use native.Mathlib.Omega.{arith}
-use native.Mathlib.Nat.{add-zero}
-use native.Mathlib.Numerals.{add-one}
-use mathlib.Core.Path.{_≡_, refl, sym, ap, _∙_}
-use mathlib.Core.Bool.{Bool, true, false, cond, _&&_}
+use mathlib.Core.Path.{_≡_, refl}
+use mathlib.Core.Bool.{Bool, true, false, _&&_}
 use mathlib.Core.List.{List, [], _∷_}
 use mathlib.Core.Logic.{_⊎_, inl, inr, ⊎-elim}
-use mathlib.Core.Option.{Option, none, some}
 use lib.ListN.{length, drop}
-use lib.Seq.{drop-drop}
 use lib.Dec.{leb, eqb}
 use borrow.Author.Tests.{leb-true, eqb-true, ne-eqb}
-use Rattle.script.specs.Lines.{digit, digits, number, numberFrom, numbers, both, onto, parts, space, point}
-use Rattle.script.specs.Blocks.{before, endOf}
+use Rattle.script.specs.Lines.{digit, digits, onto, parts, space, point}
+use Rattle.script.specs.Blocks.{before}
 use Rattle.script.specs.Reading.{rest}
 
 -- by whether a test holds

@@ -86,6 +86,7 @@ fn put_address(out: &mut [u8], at: usize, address: u32) -> usize
 
 // ---- the lines
 
+// The line of an accepted update.
 fn put_done(out: &mut [u8], at: usize, removed: u32, changed: u32) -> usize
     requires { ⌜ at + room ≤ length (now out) ⌝ }
     ensures { λ r. ⌜ Written (now (out .entry)) (now (out .exit)) at (answerOf (Said.Done removed changed)) r ⌝ }
@@ -95,6 +96,7 @@ fn put_done(out: &mut [u8], at: usize, removed: u32, changed: u32) -> usize
     put_word(out, j, b"\n")
 }
 
+// The line of a miss.
 fn put_miss(out: &mut [u8], at: usize, hop: u32, address: u32, bits: u32, examined: u32) -> usize
     requires { ⌜ at + room ≤ length (now out) ⌝ }
     ensures { λ r. ⌜ Written (now (out .entry)) (now (out .exit)) at (answerOf (Said.Miss hop address bits examined)) r ⌝ }
@@ -106,6 +108,7 @@ fn put_miss(out: &mut [u8], at: usize, hop: u32, address: u32, bits: u32, examin
     put_word(out, m, b"\n")
 }
 
+// The last line.
 fn put_tallies(out: &mut [u8], at: usize, hits: u32, misses: u32, drops: u32) -> usize
     requires { ⌜ at + room ≤ length (now out) ⌝ }
     ensures { λ r. ⌜ Written (now (out .entry)) (now (out .exit)) at (answerOf (Said.Tallies hits misses drops)) r ⌝ }

@@ -1,6 +1,6 @@
+-- `script::answers::put_number` meets its contract. It calls itself with a smaller number. Assumes nothing.
 use borrow.Author.Needs.{needs}
 use native.Mathlib.Omega.{arith}
-use lib.ListN.{length-set}
 use Rattle.script.proofs.WritingLaws.{room-for-digit, wrote-digit, room-before, room-for-last, next-fits, wrote-more}
 use Prim.Native.Nat.{ℕ, _<_}
 use borrow.Fn.Kinds.{In}

@@ -3,10 +3,6 @@ use Rattle.script.proofs.WritingLaws.{wrote-both, room-for-number, numb
 use borrow.Author.Needs.{needs}
 use Rattle.script.proofs.answers.put.Statement.{statement}
 use Rattle.script.proofs.answers.put.Tie as tie
-use Rattle.script.proofs.answers.put.Reads as reads
-use Rattle.script.proofs.answers.put.Lts as lts
-use Rattle.script.proofs.answers.put_number.Reads as put-number-reads
-use Rattle.script.proofs.answers.put_word.Reads as put-word-reads
 
 put-word-requires : tie.Need-put-word-requires
 put-word-requires c κs = search needs

@@ -4,9 +4,6 @@ use native.Mathlib.Omega.{arith}
 use borrow.Author.Needs.{needs}
 use Rattle.script.proofs.answers.put_address.Statement.{statement}
 use Rattle.script.proofs.answers.put_address.Tie as tie
-use Rattle.script.proofs.answers.put_address.Reads as reads
-use Rattle.script.proofs.answers.put_address.Lts as lts
-use Rattle.script.proofs.answers.put_octet.Reads as put-octet-reads
 
 slice-aggregate-put-octet : tie.Need-slice-aggregate-put-octet
 slice-aggregate-put-octet c = search needs

@@ -3,10 +3,6 @@ use Rattle.script.proofs.WritingLaws.{wrote-done}
 use borrow.Author.Needs.{needs}
 use Rattle.script.proofs.answers.put_done.Statement.{statement}
 use Rattle.script.proofs.answers.put_done.Tie as tie
-use Rattle.script.proofs.answers.put_done.Reads as reads
-use Rattle.script.proofs.answers.put_done.Lts as lts
-use Rattle.script.proofs.answers.put.Reads as put-reads
-use Rattle.script.proofs.answers.put_word.Reads as put-word-reads
 
 slice-aggregate-put : tie.Need-slice-aggregate-put
 slice-aggregate-put c = search needs

@@ -3,11 +3,6 @@ use Rattle.script.proofs.WritingLaws.{wrote-miss}
 use borrow.Author.Needs.{needs}
 use Rattle.script.proofs.answers.put_miss.Statement.{statement}
 use Rattle.script.proofs.answers.put_miss.Tie as tie
-use Rattle.script.proofs.answers.put_miss.Reads as reads
-use Rattle.script.proofs.answers.put_miss.Lts as lts
-use Rattle.script.proofs.answers.put.Reads as put-reads
-use Rattle.script.proofs.answers.put_address.Reads as put-address-reads
-use Rattle.script.proofs.answers.put_word.Reads as put-word-reads
 
 slice-aggregate-put : tie.Need-slice-aggregate-put
 slice-aggregate-put c = search needs

@@ -3,9 +3,6 @@ use Rattle.script.proofs.WritingLaws.{octet-ends}
 use borrow.Author.Needs.{needs}
 use Rattle.script.proofs.answers.put_octet.Statement.{statement}
 use Rattle.script.proofs.answers.put_octet.Tie as tie
-use Rattle.script.proofs.answers.put_octet.Reads as reads
-use Rattle.script.proofs.answers.put_octet.Lts as lts
-use Rattle.script.proofs.answers.put.Reads as put-reads
 
 put-requires : tie.Need-put-requires
 put-requires c κs = search needs

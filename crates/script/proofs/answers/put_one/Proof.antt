@@ -3,10 +3,6 @@ use Rattle.script.proofs.WritingLaws.{wrote-both}
 use borrow.Author.Needs.{needs}
 use Rattle.script.proofs.answers.put_one.Statement.{statement}
 use Rattle.script.proofs.answers.put_one.Tie as tie
-use Rattle.script.proofs.answers.put_one.Reads as reads
-use Rattle.script.proofs.answers.put_one.Lts as lts
-use Rattle.script.proofs.answers.put.Reads as put-reads
-use Rattle.script.proofs.answers.put_word.Reads as put-word-reads
 
 put-requires : tie.Need-put-requires
 put-requires c κs = search needs

@@ -3,10 +3,6 @@ use Rattle.script.proofs.WritingLaws.{wrote-tallies}
 use borrow.Author.Needs.{needs}
 use Rattle.script.proofs.answers.put_tallies.Statement.{statement}
 use Rattle.script.proofs.answers.put_tallies.Tie as tie
-use Rattle.script.proofs.answers.put_tallies.Reads as reads
-use Rattle.script.proofs.answers.put_tallies.Lts as lts
-use Rattle.script.proofs.answers.put.Reads as put-reads
-use Rattle.script.proofs.answers.put_word.Reads as put-word-reads
 
 slice-aggregate-put : tie.Need-slice-aggregate-put
 slice-aggregate-put c = search needs

@@ -5,8 +5,6 @@ use borrow.Author.Needs.{needs}
 use Rattle.script.proofs.WritingLaws.{Copied, none-copied, copied-more, wrote-word}
 use Rattle.script.proofs.answers.put_word.Statement.{statement}
 use Rattle.script.proofs.answers.put_word.Tie as tie
-use Rattle.script.proofs.answers.put_word.Reads as reads
-use Rattle.script.proofs.answers.put_word.Lts as lts
 
 abbrev Inv-loop : tie.InvT-loop
 Inv-loop out₀ at word i₀ out i = Copied out₀ word at out i

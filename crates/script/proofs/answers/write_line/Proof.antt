@@ -3,13 +3,6 @@ use Rattle.script.proofs.WritingLaws.{short-buffer, no-room, printed-do
 use borrow.Author.Needs.{needs}
 use Rattle.script.proofs.answers.write_line.Statement.{statement}
 use Rattle.script.proofs.answers.write_line.Tie as tie
-use Rattle.script.proofs.answers.write_line.Reads as reads
-use Rattle.script.proofs.answers.write_line.Lts as lts
-use Rattle.script.proofs.answers.put_done.Reads as put-done-reads
-use Rattle.script.proofs.answers.put_miss.Reads as put-miss-reads
-use Rattle.script.proofs.answers.put_one.Reads as put-one-reads
-use Rattle.script.proofs.answers.put_tallies.Reads as put-tallies-reads
-use Rattle.script.proofs.answers.put_word.Reads as put-word-reads
 
 returns : tie.Need-returns
 returns c = search (needs, short-buffer)

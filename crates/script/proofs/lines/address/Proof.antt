@@ -1,12 +1,8 @@
+-- `script::lines::address` meets its contract. Assumes nothing.
 use Rattle.script.proofs.AddressLaws.{octet-small, last-small, address-none-1, address-none-2, address-none-3, address-none-4, address-read}
 use borrow.Author.Needs.{needs}
 use Rattle.script.proofs.lines.address.Statement.{statement}
 use Rattle.script.proofs.lines.address.Tie as tie
-use Rattle.script.proofs.lines.address.Reads as reads
-use Rattle.script.proofs.lines.address.Lts as lts
-use Rattle.script.proofs.lines.joined.Reads as joined-reads
-use Rattle.script.proofs.lines.octet.Reads as octet-reads
-use Rattle.script.proofs.lines.part.Reads as part-reads
 
 octet-requires : tie.Need-octet-requires
 octet-requires c κs = search needs

@@ -3,8 +3,6 @@ use Rattle.script.proofs.LineLaws.{call-look, call-no-look, call-withdr
 use borrow.Author.Needs.{needs}
 use Rattle.script.proofs.lines.call.Statement.{statement}
 use Rattle.script.proofs.lines.call.Tie as tie
-use Rattle.script.proofs.lines.call.Reads as reads
-use Rattle.script.proofs.lines.call.Lts as lts
 
 enum-told : tie.Need-enum-told
 enum-told c = search needs

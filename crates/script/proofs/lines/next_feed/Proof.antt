@@ -7,8 +7,6 @@ use Rattle.script.specs.Blocks.{endOf, feed}
 use Rattle.script.proofs.FeedLaws.{feed-found, no-feed, feed-later}
 use Rattle.script.proofs.lines.next_feed.Statement.{statement}
 use Rattle.script.proofs.lines.next_feed.Tie as tie
-use Rattle.script.proofs.lines.next_feed.Reads as reads
-use Rattle.script.proofs.lines.next_feed.Lts as lts
 
 abbrev Inv-loop : tie.InvT-loop
 Inv-loop block from i₀ i = endOf feed block i ≡ endOf feed block from

@@ -3,9 +3,6 @@ use Rattle.script.proofs.LineLaws.{after-zero, after-bad-first, after-o
 use borrow.Author.Needs.{needs}
 use Rattle.script.proofs.lines.numbers_after.Statement.{statement}
 use Rattle.script.proofs.lines.numbers_after.Tie as tie
-use Rattle.script.proofs.lines.numbers_after.Reads as reads
-use Rattle.script.proofs.lines.numbers_after.Lts as lts
-use Rattle.script.proofs.lines.part.Reads as part-reads
 
 returns : tie.Need-returns
 returns c = search (needs, after-zero)

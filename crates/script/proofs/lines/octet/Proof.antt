@@ -1,10 +1,8 @@
+-- `script::lines::octet` meets its contract. Assumes nothing.
 use Rattle.script.proofs.AddressLaws.{octet-none, octet-at-end, octet-read}
 use borrow.Author.Needs.{needs}
 use Rattle.script.proofs.lines.octet.Statement.{statement}
 use Rattle.script.proofs.lines.octet.Tie as tie
-use Rattle.script.proofs.lines.octet.Reads as reads
-use Rattle.script.proofs.lines.octet.Lts as lts
-use Rattle.script.proofs.lines.part.Reads as part-reads
 
 part-requires : tie.Need-part-requires
 part-requires c κs = search needs

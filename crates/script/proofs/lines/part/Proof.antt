@@ -1,16 +1,13 @@
 -- `script::lines::part` meets its contract: after digits of the value so far, the part is read as it is from its start. Assumes nothing.
-use Prim.Native.Nat.{_-_, _≤_, _<_}
-use mathlib.Core.Path.{_≡_, refl, sym, _∙_}
+use Prim.Native.Nat.{_-_, _≤_}
+use mathlib.Core.Path.{_≡_}
 use mathlib.Core.Logic.{⊎-elim}
-use native.Mathlib.Omega.{arith}
 use lib.ListN.{length}
 use borrow.Author.Needs.{needs}
 use Rattle.script.specs.Reading.{partFrom}
 use Rattle.script.proofs.PartLaws.{none-below-digits, none-above-digits, none-too-large, one-more-digit, number-to-end, number-to-mark, empty-to-end, empty-to-mark}
 use Rattle.script.proofs.lines.part.Statement.{statement}
 use Rattle.script.proofs.lines.part.Tie as tie
-use Rattle.script.proofs.lines.part.Reads as reads
-use Rattle.script.proofs.lines.part.Lts as lts
 
 abbrev Inv-loop : tie.InvT-loop
 Inv-loop line at mark most largest value₀ i₀ value i =

@@ -3,11 +3,6 @@ use Rattle.script.proofs.LineLaws.{line-too-long, line-too-short, line-
 use borrow.Author.Needs.{needs}
 use Rattle.script.proofs.lines.read_line.Statement.{statement}
 use Rattle.script.proofs.lines.read_line.Tie as tie
-use Rattle.script.proofs.lines.read_line.Reads as reads
-use Rattle.script.proofs.lines.read_line.Lts as lts
-use Rattle.script.proofs.lines.address.Reads as address-reads
-use Rattle.script.proofs.lines.call.Reads as call-reads
-use Rattle.script.proofs.lines.numbers_after.Reads as numbers-after-reads
 
 returns : tie.Need-returns
 returns c = search (needs, line-too-long)
