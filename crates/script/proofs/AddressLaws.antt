@@ -10,11 +10,12 @@ use lib.ListN.{length, drop, length-drop}
 use lib.Seq.{drop-drop}
 use lib.Dec.{leb, ltb}
 use borrow.Author.Tests.{lt-ltb, le-ltb, ltb-true, leb-true}
-use Rattle.script.specs.Lines.{digits, valueFrom, numberFrom, number, both, numbers, parts, four, address, space, point}
+use Rattle.script.specs.Lines.{digits, valueFrom, number, both, numbers, parts, four, address, space, point}
 use Rattle.script.specs.Blocks.{before, endOf}
 use Rattle.script.specs.Reading.{ended, partAt, pointed, octetAt, addressAt}
 use Rattle.script.proofs.PartLaws.{ended-told, ended-none}
-use Rattle.script.proofs.Splitting.{by-cases, both-true, split-first, one-part, Octet, one-or-more, first-octet}
+use Rattle.script.proofs.Booleans.{by-cases, both-true}
+use Rattle.script.proofs.Splitting.{split-first, digits-free, parts-last, Octet, one-or-more, first-octet}
 use Rattle.script.specs.declared.lines.Found.{Found}
 use Rattle.script.specs.declared.lines.Found.the-variants.{Number, Nothing}
 
@@ -43,7 +44,7 @@ picked true w h = (refl, cc)
 picked false w h = let z : _≡_ {A = ℕ} 0 1 = cc in absurd (omega arith)
 
 pub number-told : (most : ℕ) (f : List ℕ) {v : ℕ} → number most f ≡ some v → Numeral most f v
-unfolding number numberFrom
+unfolding number
 number-told most [] h = let z : _≡_ {A = ℕ} 0 1 = cc in absurd (omega arith)
 number-told most (b ∷ f) {v} h =
     let (t, same) = picked (digits (b ∷ f) && leb (valueFrom 0 (b ∷ f)) most) (valueFrom 0 (b ∷ f)) h in
@@ -136,7 +137,7 @@ module _ (l : List ℕ) (at : ℕ) where
   unfolding partAt octets numbers both
   last-octet d e h =
       let (is, end) = ended-told (number 255 (before space (drop at l))) (endOf space l at) h in
-      (rw (one-part point (before space (drop at l)) (omega arith) (number-told 255 _ is .all), is), end)
+      (rw (parts-last point (before space (drop at l)) (digits-free point _ (omega arith) (number-told 255 _ is .all)), is), end)
 
   last-fails : partAt space 255 l at ≡ Nothing → Many (octets (drop at l))
   unfolding partAt octets

@@ -10,7 +10,7 @@ use borrow.Author.Tests.{lt-ltb, le-ltb}
 use Rattle.script.specs.Answers.{decimalIn, decimal, dotted, answerOf, room}
 use Rattle.script.specs.declared.answers.Said.{Said}
 use Rattle.script.specs.declared.answers.Said.the-variants.{Done, Hit, Miss, Drop, Refused, Bad, Tallies}
-use Rattle.script.proofs.Splitting.{by-cases}
+use Rattle.script.proofs.Booleans.{by-cases}
 
 -- one place more changes nothing where there are enough
 more-places : (k n : ℕ) → n < 10 ^ suc k → decimalIn (suc (suc k)) n ≡ decimalIn (suc k) n

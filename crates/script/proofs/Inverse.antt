@@ -3,17 +3,18 @@ use Prim.Native.Nat.{ℕ, zero, suc, _+_, _-_, _*_, _/_, _%_, _^_, _≤_, _<_}
 use native.Mathlib.Nat.{pow-suc}
 use native.Mathlib.Omega.{arith}
 use mathlib.Core.Path.{_≡_, refl, ap, _∙_}
-use mathlib.Core.Bool.{Bool, true, _&&_, not}
+use mathlib.Core.Bool.{true, not}
 use mathlib.Core.List.{List, [], _∷_, _++_, append-assoc}
 use mathlib.Core.Option.{some}
 use lib.ListN.{length, length-append}
 use lib.Dec.{ltb, eqb}
 use borrow.Author.Tests.{le-leb, lt-ltb, ltb-true, eq-eqb, not-true}
 use Rattle.script.specs.Text.{text}
-use Rattle.script.specs.Lines.{digit, digits, valueFrom, numberFrom, number, onto, parts, both, numbers, four, address, only, call, fields, lineOf, largest, space, point}
+use Rattle.script.specs.Lines.{digit, digits, valueFrom, number, onto, parts, both, numbers, four, address, only, call, fields, lineOf, largest, space, point}
 use Rattle.script.specs.Answers.{decimalIn, decimal, said, dotted}
 use Rattle.script.specs.declared.lines.Line.the-variants.{Announce, Withdraw, Look}
-use Rattle.script.proofs.Splitting.{by-cases, both-true, no-mark}
+use Rattle.script.proofs.Booleans.{by-cases, both-true}
+use Rattle.script.proofs.Splitting.{free, digits-free, parts-last}
 use Rattle.script.proofs.DecimalLaws.{ten-digits, dotted-length}
 
 -- ---- numbers
@@ -52,7 +53,7 @@ decimal-value (suc (suc j)) n h k =
     (λ e. rw (e, value-append (decimalIn (suc j) (n / 10)), before) (unfold valueFrom in omega arith))
 
 number-of-digits : (most : ℕ) (x : List ℕ) → 0 < length x → digits x ≡ true → valueFrom 0 x ≤ most → number most x ≡ some (valueFrom 0 x)
-unfolding number numberFrom
+unfolding number
 number-of-digits most [] k h m = absurd (omega arith)
 number-of-digits most (b ∷ x) k h m = rw (h, le-leb _ _ m)
 
@@ -69,18 +70,6 @@ number-is-read most n h k =
 
 -- ---- addresses
 
--- no byte is the mark
-unfoldable free : ℕ → List ℕ → Bool
-free m [] = true
-free m (b ∷ l) = not (eqb b m) && free m l
-
-digits-free : (m : ℕ) (x : List ℕ) → m < 48 → digits x ≡ true → free m x ≡ true
-unfolding digits free
-digits-free m [] k h = refl
-digits-free m (b ∷ x) k h =
-    let (d, ds) = both-true (digit b) (digits x) h in
-    rw (no-mark b m d k, digits-free m x k ds)
-
 decimal-free : (m n : ℕ) → m < 48 → free m (decimal n) ≡ true
 unfolding decimal
 decimal-free m n k = digits-free m (decimalIn 10 n) k (decimal-digits 10 n)
@@ -91,13 +80,6 @@ free-append m [] y h k = k
 free-append m (b ∷ x) y h k =
     let (d, ds) = both-true (not (eqb b m)) (free m x) h in
     rw (d, free-append m x y ds k)
-
-parts-last : (m : ℕ) (x : List ℕ) → free m x ≡ true → parts m x ≡ x ∷ []
-unfolding parts free onto
-parts-last m [] h = refl
-parts-last m (b ∷ x) h =
-    let (d, ds) = both-true (not (eqb b m)) (free m x) h in
-    rw (not-true (eqb b m) d, parts-last m x ds)
 
 parts-more : (m : ℕ) (x y : List ℕ) → free m x ≡ true → parts m (x ++ (m ∷ y)) ≡ x ∷ parts m y
 unfolding parts free onto

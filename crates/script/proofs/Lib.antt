@@ -1,10 +1,12 @@
-pub mod PartLaws
+pub mod Booleans
 pub mod Splitting
+pub mod PartLaws
 pub mod AddressLaws
 pub mod LineLaws
 pub mod FeedLaws
-pub mod Samples
 pub mod Storing
 pub mod DecimalLaws
 pub mod WritingLaws
 pub mod Inverse
+pub mod Callers
+pub mod Samples

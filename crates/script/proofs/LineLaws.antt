@@ -14,7 +14,8 @@ use Rattle.script.specs.Lines.{number, both, numbers, parts, onto, four,
 use Rattle.script.specs.Blocks.{before, endOf}
 use Rattle.script.specs.Reading.{rest, partAt, addressAt, counted, afterAt, called}
 use Rattle.script.proofs.PartLaws.{ended-told, ended-none}
-use Rattle.script.proofs.Splitting.{by-cases, split-first}
+use Rattle.script.proofs.Booleans.{by-cases}
+use Rattle.script.proofs.Splitting.{split-first}
 use Rattle.script.specs.declared.lines.Line.{Line}
 use Rattle.script.specs.declared.lines.Line.the-variants.{Announce, Withdraw, Look, Bad}
 use Rattle.script.specs.declared.lines.Numbers.{Numbers}

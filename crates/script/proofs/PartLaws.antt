@@ -10,9 +10,9 @@ use mathlib.Core.Option.{Option, none, some}
 use lib.ListN.{length, drop, getD, drop-of-length-le}
 use lib.Seq.{drop-cons}
 use borrow.Author.Tests.{le-leb, lt-leb, eq-eqb, ne-eqb}
-use Rattle.script.specs.Lines.{digit, digits, valueFrom, numberFrom, number}
+use Rattle.script.specs.Lines.{digit, digits, valueFrom, number}
 use Rattle.script.specs.Blocks.{before, endOf}
-use Rattle.script.specs.Reading.{ended, partAt, partFrom}
+use Rattle.script.specs.Reading.{ended, partAt, numberFrom, partFrom}
 use Rattle.script.specs.declared.lines.Found.the-variants.{Number, Nothing}
 
 -- a value only grows
@@ -63,18 +63,18 @@ ended-none (some w) end h = let z : _≡_ {A = ℕ} 0 1 = cc in absurd (omega ar
 
 module _ (most at : ℕ) {v e : ℕ} where
   whole : (f : List ℕ) → ended (numberFrom most 0 f) (at + length f) ≡ Number v e → at < e → Number v e ≡ ended (number most f) (at + length f)
-  unfolding number
+  unfolding number numberFrom
   whole [] h k = absurd (let x = ended-told (numberFrom most 0 []) (at + 0) h .1 in omega arith)
   whole (b ∷ f) h k = sym h
 
   empty : (f : List ℕ) → ended (numberFrom most 0 f) (at + length f) ≡ Number v e → e ≤ at → Nothing ≡ ended (number most f) (at + length f)
-  unfolding number ended
+  unfolding number numberFrom ended
   empty [] h k = refl
   empty (b ∷ f) h k = absurd (let x = ended-told (numberFrom most 0 (b ∷ f)) (at + suc (length f)) h .1 in omega arith)
 
 module _ (most at : ℕ) where
   none-of : (f : List ℕ) → ended (numberFrom most 0 f) (at + length f) ≡ Nothing → Nothing ≡ ended (number most f) (at + length f)
-  unfolding number ended
+  unfolding number numberFrom ended
   none-of [] h = refl
   none-of (b ∷ f) h = sym h
 

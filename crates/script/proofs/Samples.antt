@@ -6,7 +6,7 @@ use mathlib.Core.Path.{_≡_, refl}
 use mathlib.Core.List.{List, [], _∷_, _++_}
 use lib.ListN.{replicate}
 use Rattle.script.specs.Text.{text}
-use Rattle.script.specs.Lines.{digit, digits, valueFrom, numberFrom, number, onto, parts, both, numbers, four, address, only, call, fields, lineOf}
+use Rattle.script.specs.Lines.{digit, digits, valueFrom, number, onto, parts, both, numbers, four, address, only, call, fields, lineOf}
 use Rattle.script.specs.Answers.{decimalIn, decimal, dotted, answerOf}
 use Rattle.script.specs.declared.lines.Line.{Line}
 use Rattle.script.specs.declared.lines.Line.the-variants.{Announce, Withdraw, Look, Bad}
@@ -27,7 +27,7 @@ printed (s ∷ l) = answerOf s ++ printed l
 
 -- all that a claim has to open
 unfoldable computing : Unit {0}
-unfolding ip lines printed decimalIn decimal dotted answerOf digit digits valueFrom numberFrom number onto parts both numbers four address only call fields lineOf
+unfolding ip lines printed decimalIn decimal dotted answerOf digit digits valueFrom number onto parts both numbers four address only call fields lineOf
 computing = tt
 
 worked-run :

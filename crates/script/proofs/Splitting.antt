@@ -2,24 +2,16 @@
 use Prim.Native.Nat.{ℕ, suc, _+_, _≤_, _<_}
 use native.Mathlib.Omega.{arith}
 use mathlib.Core.Path.{_≡_, refl}
-use mathlib.Core.Bool.{Bool, true, false, _&&_}
+use mathlib.Core.Bool.{Bool, true, false, _&&_, not}
 use mathlib.Core.List.{List, [], _∷_}
 use mathlib.Core.Logic.{_⊎_, inl, inr, ⊎-elim}
 use lib.ListN.{length, drop}
 use lib.Dec.{leb, eqb}
-use borrow.Author.Tests.{leb-true, eqb-true, ne-eqb}
+use borrow.Author.Tests.{leb-true, eqb-true, ne-eqb, not-true}
 use Rattle.script.specs.Lines.{digit, digits, onto, parts, space, point}
 use Rattle.script.specs.Blocks.{before}
 use Rattle.script.specs.Reading.{rest}
-
--- by whether a test holds
-pub by-cases : {P : Type 0} (t : Bool) → (t ≡ true → P) → (t ≡ false → P) → P
-by-cases true yes′ no′ = yes′ refl
-by-cases false yes′ no′ = no′ refl
-
-pub both-true : (t u : Bool) → (t && u) ≡ true → (t ≡ true) × (u ≡ true)
-both-true true u h = (refl, h)
-both-true false u h = (h, let z : _≡_ {A = ℕ} 0 1 = cc in absurd (omega arith))
+use Rattle.script.proofs.Booleans.{by-cases, both-true}
 
 -- a digit is no space and no point
 pub no-mark : (b m : ℕ) → digit b ≡ true → m < 48 → eqb b m ≡ false
@@ -34,13 +26,25 @@ unfolding parts before rest onto
 split-first m [] = refl
 split-first m (b ∷ t) = by-cases (eqb b m) (λ e. rw e) (λ e. rw (e, split-first m t))
 
--- digits are one part
-pub one-part : (m : ℕ) (t : List ℕ) → m < 48 → digits t ≡ true → parts m t ≡ t ∷ []
-unfolding parts digits onto
-one-part m [] k h = refl
-one-part m (b ∷ t) k h =
-    let (d, ds) = both-true (digit b) (digits t) h in
-    rw (no-mark b m d k, one-part m t k ds)
+-- no byte is the mark
+unfoldable pub free : ℕ → List ℕ → Bool
+free m [] = true
+free m (b ∷ l) = not (eqb b m) && free m l
+
+pub digits-free : (m : ℕ) (x : List ℕ) → m < 48 → digits x ≡ true → free m x ≡ true
+unfolding digits free
+digits-free m [] k h = refl
+digits-free m (b ∷ x) k h =
+    let (d, ds) = both-true (digit b) (digits x) h in
+    rw (no-mark b m d k, digits-free m x k ds)
+
+-- then they are one part
+pub parts-last : (m : ℕ) (x : List ℕ) → free m x ≡ true → parts m x ≡ x ∷ []
+unfolding parts free onto
+parts-last m [] h = refl
+parts-last m (b ∷ x) h =
+    let (d, ds) = both-true (not (eqb b m)) (free m x) h in
+    rw (not-true (eqb b m) d, parts-last m x ds)
 
 -- split at points, the bytes before a space: they are one octet, or a point ends the first and there are more
 pub record Octet (t : List ℕ) : Type 0 where

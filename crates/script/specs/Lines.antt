@@ -28,14 +28,10 @@ unfoldable pub valueFrom : ℕ → List ℕ → ℕ
 valueFrom v [] = v
 valueFrom v (b ∷ l) = valueFrom (v * 10 + (b - code "0")) l
 
--- digits after the value v, of a value that is at most `most`
-unfoldable pub numberFrom : ℕ → ℕ → List ℕ → Option ℕ
-numberFrom most v l = cond (digits l && leb (valueFrom v l) most) (some (valueFrom v l)) none
-
--- a number has at least one digit
+-- digits, at least one, of a value that is at most `most`
 unfoldable pub number : ℕ → List ℕ → Option ℕ
 number most [] = none
-number most (b ∷ l) = numberFrom most 0 (b ∷ l)
+number most (b ∷ l) = cond (digits (b ∷ l) && leb (valueFrom 0 (b ∷ l)) most) (some (valueFrom 0 (b ∷ l))) none
 
 -- ---- parts
 

@@ -1,13 +1,13 @@
 -- What the functions of the reader answer at a place of a line, each said by the parts of `Lines`. Assumes nothing.
 use Prim.Native.Nat.{ℕ, _+_}
 use Prim.Native.Char.{code}
-use mathlib.Core.Bool.{cond}
+use mathlib.Core.Bool.{cond, _&&_}
 use mathlib.Core.List.{List, [], _∷_}
 use mathlib.Core.Option.{Option, none, some}
 use lib.ListN.{length, drop}
-use lib.Dec.{eqb, ltb}
+use lib.Dec.{leb, eqb, ltb}
 use Rattle.script.specs.Blocks.{before, endOf}
-use Rattle.script.specs.Lines.{numberFrom, number, parts, numbers, address, space, point, largest}
+use Rattle.script.specs.Lines.{digits, valueFrom, number, parts, numbers, address, space, point, largest}
 use Rattle.script.specs.declared.lines.Line.{Line}
 use Rattle.script.specs.declared.lines.Line.the-variants.{Announce, Withdraw, Look, Bad}
 use Rattle.script.specs.declared.lines.Numbers.{Numbers}
@@ -28,6 +28,9 @@ unfoldable pub partAt : ℕ → ℕ → List ℕ → ℕ → Found
 partAt mark most l at = ended (number most (before mark (drop at l))) (endOf mark l at)
 
 -- the same in the middle of a part, after digits of the value v
+unfoldable pub numberFrom : ℕ → ℕ → List ℕ → Option ℕ
+numberFrom most v l = cond (digits l && leb (valueFrom v l) most) (some (valueFrom v l)) none
+
 unfoldable pub partFrom : ℕ → ℕ → ℕ → List ℕ → ℕ → Found
 partFrom mark most v l at = ended (numberFrom most v (before mark (drop at l))) (endOf mark l at)
 

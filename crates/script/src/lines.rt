@@ -15,10 +15,13 @@ const POINT: u8 = b'.';
 
 const FEED: u8 = b'\n';
 
-// What a line asks for, an address as one number, first octet highest.
+// What a line asks for. An address is one number, the first octet highest.
 pub enum Line {
+    // address, length and hop
     Announce(u32, u32, u32),
+    // address and length
     Withdraw(u32, u32),
+    // address
     Look(u32),
     Bad,
 }
