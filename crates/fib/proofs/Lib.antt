@@ -1,0 +1,14 @@
+pub mod Pairing
+pub mod Storing
+pub mod Looking
+pub mod Passing
+pub mod Turning
+pub mod Judging
+pub mod Going
+pub mod UpdateLaws
+pub mod CheckLaws
+pub mod Setups
+pub mod Writing
+pub mod WrittenTables
+pub mod WrittenCaches
+pub mod CarriedPairs

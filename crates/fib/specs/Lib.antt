@@ -1,0 +1,4 @@
+pub mod Pairs
+pub mod Calls
+pub mod Lookups
+pub mod Passes
