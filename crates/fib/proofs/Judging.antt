@@ -16,18 +16,16 @@ use Rattle.prefix.proofs.Order.{take-len, take-⊑, ⊑-take}
 use Rattle.prefix.proofs.Tests.{contains-⊑, ⊑-contains, ne-same, eq-same}
 use Rattle.prefix.proofs.Booleans.{clash}
 use Rattle.prefix.proofs.AddressLaws.{length-address}
-use Rattle.model.specs.Lists.{_∈_, any}
+use Rattle.model.specs.Lists.{any}
 use Rattle.model.specs.Routes as model
 use Rattle.model.specs.Routes.{Route, match}
 use Rattle.model.specs.Model.{withdraws, leaves, hopOf, fresh}
-use Rattle.model.specs.Demands.{Hop, uncovered}
+use Rattle.model.specs.Demands.{uncovered}
 use Rattle.model.proofs.ListLaws.{in-any}
 use Rattle.model.proofs.Match.{match-longest, match-none}
 use Rattle.model.proofs.Updates.{leaving-leaves}
-use Rattle.trie.proofs.Holding.{in-held}
 use Rattle.slots.specs.Layout.{slotWord, word, cacheOf}
-use Rattle.nodes.specs.Layout.{nodesOf, trieOf}
-use Rattle.table.specs.Tables.{ipv4Bits, routes, SoundTable}
+use Rattle.table.specs.Tables.{ipv4Bits, routes}
 use Rattle.search.specs.Matches.{foundFor}
 use Rattle.search.specs.Standings.{Judged, JudgedAt}
 use Rattle.search.specs.declared.Found.the-variants.{Match, Nothing}
@@ -39,6 +37,7 @@ use Rattle.updates.specs.declared.Prefix.{Prefix}
 use Rattle.updates.specs.declared.Update.{Update}
 use Rattle.fib.specs.declared.update.Pass.{Pass}
 use Rattle.fib.specs.Passes.{Within, Turned, Drops, Keeps, Ready, Turns, Alike, Withdrawn}
+use Rattle.fib.proofs.Pairing.{routes-hops}
 
 -- ---- the withdrawn prefix
 
@@ -83,10 +82,6 @@ found-none (some M) e = absurd (let z : _≡_ {A = ℕ} 0 1 = cc in omega arith)
 found-some : (o : Option Route) (hop len : ℕ) → foundFor o ≡ Match hop len → (M : Route) × (o ≡ some M) × (M .hop ≡ hop)
 found-some none hop len e = absurd (let z : _≡_ {A = ℕ} 0 1 = cc in omega arith)
 found-some (some M) hop len e = (M, refl, cc)
-
-route-hop : {w : List ℕ} → SoundTable w → (R : Route) → R ∈ routes w → Hop (R .hop)
-unfolding routes
-route-hop {w} S R m = let h = in-held (trieOf w) (nodesOf w) R m in S .hops (h .slot) (R .hop) (h .is-live) (h .is-hop)
 
 module _ (table w w′ : List ℕ) (u : Update) (p q : Pass) (a : Address) (n : ℕ) (s : Standing) (h : Within w p × (0 < p .at))
     (ea : take 32 (addressBits a) ≡ bits 32 (word w (slotWord (p .at) 0))) (en : n ≡ word w (slotWord (p .at) 1) % 64) (j : JudgedAt table (ipv4Bits a) n s) where
@@ -142,4 +137,4 @@ module _ (table w w′ : List ℕ) (u : Update) (p q : Pass) (a : Address) (n : 
       go : (M : Route) × (match (routes table) (entryIn w (p .at) .prefix) ≡ some M) × (M .hop ≡ hop) → Turned (routes table) (updateOf u) w w′ p q
       go (M, m, z) =
           k (routes table) (updateOf u) (R .its-entries) (stays R out r told e M m) (its-hop M m ∙ z)
-          (omega (arith, z, route-hop (R .its-table) M (match-longest (routes table) (entryIn w (p .at) .prefix) m .is-route)))
+          (omega (arith, z, routes-hops (R .its-table) M (match-longest (routes table) (entryIn w (p .at) .prefix) m .is-route)))

@@ -6,6 +6,7 @@ pub mod Turning
 pub mod Judging
 pub mod Going
 pub mod UpdateLaws
+pub mod UpdateAlike
 pub mod CheckLaws
 pub mod Setups
 pub mod Writing

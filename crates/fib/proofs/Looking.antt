@@ -1,27 +1,27 @@
 -- A lookup: what it found says what the model does. Assumes nothing.
-use mathlib.Core.Path.{_≡_, refl, sym, ap, ap₂, _∙_, subst}
+use mathlib.Core.Path.{_≡_, refl, sym, ap, ap₂, _∙_}
 use mathlib.Core.Bool.{Bool, true, false}
-use mathlib.Core.List.{List, [], _∷_, map}
+use mathlib.Core.List.{List, _∷_}
 use mathlib.Core.Option.{Option, none, some}
 use Prim.Native.Nat.{ℕ, suc, max, _-_, _≤_, _<_}
 use native.Mathlib.Decide.{ℕ-discrete}
 use native.Mathlib.Omega.{arith}
 use lib.ListN.{length, take}
-use Rattle.prefix.specs.Bits.{Bits, bits}
-use Rattle.prefix.specs.Prefix.{contains, common}
+use Rattle.prefix.specs.Bits.{bits}
+use Rattle.prefix.specs.Prefix.{contains}
 use Rattle.prefix.specs.Addresses.{addressBits}
 use Rattle.prefix.specs.declared.Address.{Address}
 use Rattle.prefix.proofs.Booleans.{clash}
 use Rattle.prefix.proofs.Tests.{contains-⊑, apart-not}
-use Rattle.tallies.specs.Counting.{afterHit, afterDrop}
+use Rattle.tallies.specs.Counting.{afterDrop}
 use Rattle.tallies.specs.declared.Tallies.{Tallies}
-use Rattle.model.specs.Lists.{_∈_, first, omit, largest}
+use Rattle.model.specs.Lists.{_∈_, first}
 use Rattle.model.specs.Routes.{Route, match}
 use Rattle.model.specs.Model as model
 use Rattle.model.specs.Model.{Entry, Cache, newLength, newPrefix, lookup, lookCache, lookTable}
 use Rattle.model.specs.Nodes.{examined}
 use Rattle.model.specs.Runs.{tallied, looked, step}
-use Rattle.model.specs.Demands.{Legal, NoneCached, Storable, Longest}
+use Rattle.model.specs.Demands.{Storable}
 use Rattle.model.proofs.ListLaws.{first-in}
 use Rattle.model.proofs.Match.{match-longest, new-≤, stored-storable}
 use Rattle.model.proofs.Descent.{new-split}
@@ -37,14 +37,13 @@ use Rattle.slots.specs.declared.Shape.the-variants.{Fits, Broken}
 use Rattle.table.specs.Tables.{routes, SoundTable}
 use Rattle.search.specs.Matches.{foundFor, Matched}
 use Rattle.search.specs.declared.Answer as search
-use Rattle.search.specs.declared.Found.{Found}
 use Rattle.search.specs.declared.Found.the-variants.{Match, Nothing}
 use Rattle.cache.specs.Caches.{ipv4Bits, entries, Slot, entryIn, othersIn, Free, SoundEntries, NearestTo, Holds}
 use Rattle.cache.specs.declared.find.Nearest.{Nearest}
 use Rattle.cache.specs.declared.find.Nearest.the-variants.{Hit, Miss}
 use Rattle.cache.proofs.EntryLaws.{length-ipv4}
-use Rattle.fib.specs.Pairs.{SoundPair, limitsOf}
-use Rattle.fib.specs.Calls.{answerOf, Reached, CacheKept, LookedUp}
+use Rattle.fib.specs.Pairs.{SoundPair}
+use Rattle.fib.specs.Calls.{answerOf, ClearedIn, CacheKept, LookedUp}
 use Rattle.fib.specs.Lookups.{Missed, LookedAt, Used, Stored}
 use Rattle.fib.specs.declared.lookup.Answer.{Answer}
 use Rattle.fib.specs.declared.lookup.Answer.the-variants as answers
@@ -63,11 +62,12 @@ none-first f c h = go (first f c) refl
 -- the outcome is the model's if the answer, the tallies and the entries are
 finish : {table cache cache′ : List ℕ} {tallies : Tallies} (x : Address) {r : Looked} (l : model.Looked) → SoundPair table cache
     → lookup (routes table) (entries cache) (limitOf cache) (ipv4Bits x) ≡ l
-    → answerOf (r .answer) ≡ l .answer → r .tallies ≡ tallied tallies (l .answer) (l .evicted) → Holds cache′ (l .cache) → CacheKept cache cache′
+    → answerOf (r .answer) ≡ l .answer → ClearedIn (r .answer) → r .tallies ≡ tallied tallies (l .answer) (l .evicted) → Holds cache′ (l .cache) → CacheKept cache cache′
     → LookedAt table cache cache′ tallies (ipv4Bits x) r
 unfolding step looked
-finish {table} {cache} {cache′} {tallies} x {r} l S z a t h k = record {
+finish {table} {cache} {cache′} {tallies} x {r} l S z a b t h k = record {
   answer = a ∙ ap (λ (q : model.Looked). q .answer) (sym z);
+  cleared = b;
   state = record {
     are-routes = record { to = λ R m. m; from = λ R m. m };
     are-entries = same;
@@ -100,7 +100,7 @@ module _ (table cache : List ℕ) (x : Address) (s : search.Answer) (m : SoundTa
   dropped e past t u f S M =
       let none-matches = found-none (match (routes table) (ipv4Bits x)) (sym e ∙ m (S .its-table) .is-match) in
       finish x (record { answer = model.drop (examined (routes table) (ipv4Bits x)); cache = entries cache; evicted = 0 }) S
-      (rw (none-hit M, none-matches)) (ap model.drop (m (S .its-table) .count)) f (record { sound = S .its-cache; are-entries = refl }) (refl, refl)
+      (rw (none-hit M, none-matches)) (ap model.drop (m (S .its-table) .count)) tt f (record { sound = S .its-cache; are-entries = refl }) (refl, refl)
 
   module _ (hop own : ℕ) (e : s .found ≡ Match hop own) where
     route : SoundPair table cache → (M : Route) × (match (routes table) (ipv4Bits x) ≡ some M) × (hop ≡ M .hop)
@@ -137,7 +137,7 @@ module _ (table cache : List ℕ) (x : Address) (s : search.Answer) (m : SoundTa
                 answer = model.miss hop (take n (ipv4Bits x)) (s .examined);
                 cache = take (limitOf cache) (record { prefix = take n (ipv4Bits x); hop = hop } ∷ entries cache);
                 evicted = suc (length (entries cache)) - limitOf cache;
-              }) S (rw (none-hit N, f, z, g, m (S .its-table) .count)) (q .answer) (q .counted) (q .holds) (q .kept)
+              }) S (rw (none-hit N, f, z, g, m (S .its-table) .count)) (q .answer) (q .cleared) (q .counted) (q .holds) (q .kept)
 
 -- ---- the header
 
@@ -163,7 +163,7 @@ module _ (w : List ℕ) (shape : Shape) (read : HeaderRead w shape) where
 -- the address is that of x
 of-address : {table cache cache′ : List ℕ} {t : Tallies} {r : Looked} (x : Address) (address : ℕ) → take 32 (addressBits x) ≡ bits 32 address
     → LookedAt table cache cache′ t (ipv4Bits x) r → LookedUp table cache cache′ t address r
-of-address x address e L = record { answer = rw (← e) (L .answer); state = rw (← e) (L .state); sound = L .sound; kept = L .kept }
+of-address x address e L = record { answer = rw (← e) (L .answer); cleared = L .cleared; state = rw (← e) (L .state); sound = L .sound; kept = L .kept }
 
 module _ (cache : List ℕ) (x : Address) (near : Nearest) (found : NearestTo cache (ipv4Bits x) near) where
   pub hit-slot : (k : ℕ) → near ≡ Hit k → Slot cache k
@@ -176,7 +176,7 @@ module _ (cache : List ℕ) (x : Address) (near : Nearest) (found : NearestTo ca
       of-address x address ea
       (finish x (record { answer = model.hit (entryIn cache k .hop); cache = entryIn cache k ∷ othersIn cache k; evicted = 0 }) S
       (rw (first-entry C test k slot yes-k only, omit-entry C test k slot yes-k only))
-      (rw (u .says)) (rw (u .says)) (u .holds (S .its-cache)) (u .kept))
+      (rw (u .says)) (rw (u .says) tt) (rw (u .says)) (u .holds (S .its-cache)) (u .kept))
     where
       C : lru.SoundCache (entriesHeld cache) (cacheOf cache)
       C = S .its-cache .slots

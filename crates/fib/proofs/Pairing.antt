@@ -1,5 +1,5 @@
 -- What a sound pair of stores gives, and what makes one. Assumes nothing.
-use mathlib.Core.Path.{_≡_, refl, ap}
+use mathlib.Core.Path.{_≡_, ap}
 use mathlib.Core.List.{List}
 use Prim.Native.Nat.{ℕ, suc, _≤_}
 use native.Mathlib.Omega.{arith}
@@ -9,7 +9,6 @@ use Rattle.prefix.proofs.BitLaws.{length-bits}
 use Rattle.model.specs.Lists.{_∈_}
 use Rattle.model.specs.Model.{Entry}
 use Rattle.model.specs.Demands.{Hop, Legal, NoLonger}
-use Rattle.trie.specs.Trie.{Dense}
 use Rattle.trie.proofs.Holding.{in-held, routes-distinct}
 use Rattle.lru.specs.Sound as lru
 use Rattle.lru.proofs.Holding.{entries-length, entry-slot, entries-apart}

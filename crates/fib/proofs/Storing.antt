@@ -9,18 +9,16 @@ use Rattle.prefix.specs.Bits.{Bits, bits}
 use Rattle.prefix.specs.Prefix.{trimmed}
 use Rattle.prefix.specs.Addresses.{addressBits}
 use Rattle.prefix.specs.declared.Address.{Address}
-use Rattle.prefix.proofs.Trimming.{take-trimmed, take-of-trimmed}
+use Rattle.prefix.proofs.Trimming.{take-trimmed, take-of-trimmed, trimmed-longer}
 use Rattle.tallies.specs.Counting.{afterHit, afterMiss}
 use Rattle.tallies.specs.declared.Tallies.{Tallies}
-use Rattle.model.specs.Lists.{_∈_}
 use Rattle.model.specs.Model as model
 use Rattle.model.specs.Model.{Entry}
 use Rattle.model.proofs.ListLaws.{take-in}
 use Rattle.slots.specs.Layout.{slotWord, word, limitOf, entriesHeld, cacheOf, Shaped}
 use Rattle.slots.specs.declared.Header.{Header}
 use Rattle.cache.specs.Caches.{ipv4Bits, entries, entryIn, othersIn, Free, SoundEntries, Kept, Holds, Removes, Oldest}
-use Rattle.fib.specs.Calls.{answerOf, CacheKept}
-use Rattle.fib.specs.Lookups.{Used, Stored, Cleared, MadeRoom}
+use Rattle.fib.specs.Lookups.{Used, FirstBits, Stored, Cleared, MadeRoom}
 use Rattle.fib.specs.declared.lookup.Answer.the-variants.{Hit, Miss}
 use Rattle.fib.specs.declared.lookup.Looked.{Looked}
 use Rattle.fib.specs.declared.lookup.Room.{Room}
@@ -36,8 +34,8 @@ used w w′ held k hop t u e f kept holds = record { says = rw (e, f); holds = h
 
 -- ---- the stored address
 
-pub first-bits : (n r : ℕ) (x a : Address) → addressBits a ≡ trimmed n (addressBits x) → bits 32 r ≡ take 32 (addressBits a) → take n (bits 32 r) ≡ take n (ipv4Bits x)
-first-bits n r x a e f = ap (take n) (f ∙ ap (take 32) e ∙ take-of-trimmed 32 n (addressBits x)) ∙ take-trimmed n (take 32 (addressBits x))
+pub first-bits : (n r : ℕ) (x a : Address) → addressBits a ≡ trimmed n (addressBits x) → bits 32 r ≡ take 32 (addressBits a) → n ≤ 32 → FirstBits (ipv4Bits x) n r
+first-bits n r x a e f l = record { short = l; are-bits = f ∙ ap (take 32) e ∙ take-of-trimmed 32 n (addressBits x) }
 
 -- ---- room
 
@@ -52,9 +50,6 @@ module _ (w : List ℕ) (h : Header) (s : Shaped w) (are-limit : h .limit ≡ li
     holds = λ S. record { sound = S; are-entries = sym (take-all (limitOf w - 1) (entries w) (omega (arith, held-entries S, are-limit, are-held))) };
     evicted = λ S. omega (arith, held-entries S, are-limit, are-held);
   }
-
-  pub is-full : h .limit ≤ h .entries → h .entries ≡ limitOf w
-  is-full l = omega (arith, s .entries-fit, are-limit, are-held)
 
 module _ (w : List ℕ) (s : Shaped w) (held : ℕ) (are-held : held ≡ entriesHeld w) (full : held ≡ limitOf w) (k : ℕ) (old : SoundEntries w → 0 < entriesHeld w → Oldest w k) where
   oldest : SoundEntries w → Oldest w k
@@ -103,11 +98,12 @@ module _ (w w′ : List ℕ) (room : Room) (made : MadeRoom w w′ room) (held :
   pub stored : (w″ : List ℕ) (h : Header) (x : Address) (n hop examined a : ℕ) (t u : Tallies)
       → h .entries ≡ entriesHeld w
       → Kept w′ w″ (suc held) → (SoundEntries w′ → Free w′ (take n (ipv4Bits x)) → Holds w″ (record { prefix = take n (ipv4Bits x); hop = hop } ∷ entries w′))
-      → take n (bits 32 a) ≡ take n (ipv4Bits x)
+      → FirstBits (ipv4Bits x) n a
       → u ≡ afterMiss t (h .entries - held)
       → SoundEntries w → Free w (take n (ipv4Bits x)) → Stored w w″ (ipv4Bits x) n hop examined t (record { answer = Miss hop a n examined; tallies = u })
   stored w″ h x n hop examined a t u are-held kept put ea eu S free = record {
-    answer = ap (λ (p : Bits). model.miss hop p examined) ea;
+    answer = ap (λ (p : Bits). model.miss hop p examined) (ap (take n) (ea .are-bits) ∙ take-trimmed n (ipv4Bits x));
+    cleared = (ea .short, ea .are-bits ∙ sym (ap (trimmed n) (ea .are-bits) ∙ trimmed-longer n n (ipv4Bits x) (omega arith)));
     counted = eu ∙ ap (afterMiss t) (ap (λ (m : ℕ). m - held) are-held ∙ c .evicted S);
     holds = record { sound = p .sound; are-entries = p .are-entries ∙ before (limitOf w) (omega (arith, c .room, c .kept)) (c .holds S .are-entries) };
     kept = (kept .limit-kept ∙ c .kept .0, rw (c .kept .0) at (kept .past-kept) ∙ c .kept .1);

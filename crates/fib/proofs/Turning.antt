@@ -13,11 +13,12 @@ use Rattle.model.specs.Routes.{Table, Update}
 use Rattle.model.specs.Model.{Entry, Cache, leaves, fresh, refreshed, removed, changed}
 use Rattle.lru.specs.Sound as lru
 use Rattle.lru.proofs.Orders.{ring-order, order-all, order-distinct}
-use Rattle.lru.proofs.Holding.{entries-length, keep-others}
+use Rattle.lru.proofs.Holding.{keep-others}
 use Rattle.slots.specs.Layout.{slotWord, word, entriesHeld, cacheOf, Shaped}
 use Rattle.cache.specs.Caches.{entries, SoundEntries, Slot, entryIn, withHop, rehopped, Kept, Removes, Rehops}
 use Rattle.fib.specs.declared.update.Pass.{Pass}
 use Rattle.fib.specs.Passes.{Within, Stepped, Right, RightAbove, Turned, Drops, Keeps, nextPass}
+use Rattle.fib.proofs.Pairing.{held-entries}
 use Rattle.fib.proofs.Passing.{leaves-prefix, fresh-prefix, rehop-cache, rehop-removed, rehop-changed, fewer-removed}
 
 shaped-after : {w w′ : List ℕ} {held : ℕ} → Shaped w → Kept w w′ held → length w′ ≡ length w → held ≤ entriesHeld w → Shaped w′
@@ -26,10 +27,6 @@ shaped-after s k size low = record {
   enough = rw (k .limit-kept, size) (s .enough);
   entries-fit = omega (arith, k .count, k .limit-kept, s .entries-fit);
 }
-
-entries-size : {w : List ℕ} → SoundEntries w → length (entries w) ≡ entriesHeld w
-unfolding entries
-entries-size S = entries-length (S .slots)
 
 -- ---- it leaves
 
@@ -56,7 +53,7 @@ module _ {w w′ : List ℕ} {p : Pass} (h : Within w p × (0 < p .at)) (kept : 
     same-stay = ap (keep (λ E. not (leaves T u E))) (gone S .holds .are-entries) ∙ keep-others (S .slots) (λ E. not (leaves T u E)) (p .at) (rw lv)
 
     one-less : suc (length (entries w′)) ≡ length (entries w)
-    one-less = omega (arith, entries-size S, entries-size (gone S .holds .sound), kept .count, h .0 .count, h .0 .at-most, h .1)
+    one-less = omega (arith, held-entries S, held-entries (gone S .holds .sound), kept .count, h .0 .count, h .0 .at-most, h .1)
 
     drop-cache : refreshed T u (entries w′) ≡ refreshed T u (entries w)
     unfolding refreshed

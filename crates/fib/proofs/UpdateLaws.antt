@@ -2,6 +2,7 @@
 use mathlib.Core.Path.{_≡_, refl, sym, ap, ap₂, _∙_, subst}
 use mathlib.Core.Bool.{not}
 use mathlib.Core.List.{List}
+use mathlib.Core.Logic.{_⊎_, inl, inr}
 use Prim.Native.Nat.{ℕ, zero, suc, _≤_}
 use native.Mathlib.Decide.{decLe}
 use native.Mathlib.Omega.{arith}
@@ -16,18 +17,15 @@ use Rattle.model.specs.Routes.{updated}
 use Rattle.model.specs.Model as answers
 use Rattle.model.specs.Model.{Entry, Cache, Limits, refusal, leaves, fresh, refreshed, removed, changed}
 use Rattle.model.specs.Runs.{State, Outcome, step, judged, accepted, update}
-use Rattle.model.specs.Demands.{Covered, Distinct}
+use Rattle.model.specs.Demands.{Covered}
 use Rattle.model.proofs.ListLaws.{keep-in, map-in}
 use Rattle.model.proofs.Match.{OneEach, one-each}
 use Rattle.model.proofs.Updates.{updated-distinct, fresh-entry, update-refused}
 use Rattle.model.proofs.SameRoutes.{refreshed-same, removed-same, changed-same}
 use Rattle.prefix.proofs.Booleans.{not-false}
-use Rattle.trie.proofs.Holding.{routes-distinct}
 use Rattle.slots.specs.Headers.{HeaderRead}
 use Rattle.slots.specs.declared.Shape.{Shape}
-use Rattle.slots.specs.declared.Shape.the-variants.{Fits, Broken}
-use Rattle.slots.specs.declared.Header.{Header}
-use Rattle.slots.specs.Layout.{entriesHeld, Shaped}
+use Rattle.slots.specs.declared.Shape.the-variants.{Broken}
 use Rattle.table.specs.Tables.{ipv4Bits, routes, SoundTable}
 use Rattle.cache.specs.Caches.{entries}
 use Rattle.updates.specs.Updates as updates
@@ -39,7 +37,8 @@ use Rattle.fib.specs.declared.update.Pass.{Pass}
 use Rattle.fib.specs.declared.update.Updated.{Updated}
 use Rattle.fib.specs.Pairs.{SoundPair, limitsOf}
 use Rattle.fib.specs.Calls.{stateOf, updatedOf, Reached, updateStep, UpdatedPair, Refused, UpdatePromise}
-use Rattle.fib.specs.Passes.{Renewed, Passed, refusedBy}
+use Rattle.fib.specs.Passes.{Renewed, Passed, refusedBy, Numbered}
+use Rattle.fib.proofs.Pairing.{legal-pair}
 
 -- ---- what the model says
 
@@ -53,10 +52,6 @@ step-accepted : (L : Limits) (s : State) (a : Bits) (n : ℕ) (act : model.Actio
     → step L s (update a n act) ≡ accepted s (record { prefix = take n a; action = act }) (updated (s .table) (record { prefix = take n a; action = act }))
 unfolding step judged
 step-accepted L s a n act e = rw e
-
-distinct : {w : List ℕ} → SoundTable w → Distinct (routes w)
-unfolding routes
-distinct S = routes-distinct (S .trie)
 
 is-done : (v : Verdict) → verdictNumber v ≡ 0 → v ≡ Done
 is-done Done e = refl
@@ -142,7 +137,7 @@ module _ {w w′ : List ℕ} {u : Update} {v : Verdict} (a : TableUpdated w w′
         renewed = passed .renewed (record { its-table = after .sound; its-entries = P .its-cache; short = short })
 
         one : OneEach (updated (routes w) (updateOf u))
-        one = one-each (updated-distinct (routes w) (updateOf u) (distinct (P .its-table)))
+        one = one-each (updated-distinct (routes w) (updateOf u) (legal-pair P .distinct))
 
         is-removed : p .removed ≡ removed (updated (routes w) (updateOf u)) (updateOf u) (entries x)
         is-removed = renewed .is-removed ∙ removed-same (routes w′) (updated (routes w) (updateOf u)) (updateOf u) (entries x) (after .are-routes)
@@ -188,11 +183,23 @@ module _ {w w′ : List ℕ} {u : Update} {v : Verdict} (a : TableUpdated w w′
         refused = λ P ne. absurd (ne refl);
       }
 
--- ---- the cache's header
+-- ---- on any pair
 
-module _ (x : List ℕ) (shape : Shape) (read : HeaderRead x shape) (h : Header) (is : shape ≡ Fits h) where
-  pub header-shaped : Shaped x
-  header-shaped = (rw is at read) .0
+-- a number that comes after the first two
+late-number : (v : Verdict) → (¬ (v ≡ TooLong)) × (¬ (v ≡ BadHop)) → (verdictNumber v ≡ 0) ⊎ (verdictNumber v ≡ 3) ⊎ (verdictNumber v ≡ 4) ⊎ (verdictNumber v ≡ 9)
+late-number Done n = inl refl
+late-number TooLong n = absurd (n .0 refl)
+late-number BadHop n = absurd (n .1 refl)
+late-number Full n = inr (inl refl)
+late-number NotHeld n = inr (inr (inl refl))
+late-number Unsound n = inr (inr (inr refl))
 
-  pub header-entries : h .entries ≡ entriesHeld x
-  header-entries = (rw is at read) .2
+pub numbered-refused : {w w′ : List ℕ} {u : Update} {v : Verdict} (a : TableUpdated w w′ u v) {k : ℕ} → k ≡ verdictNumber v → {t : Tallies} {r : Updated} → r ≡ refusedBy k t → Numbered t u r
+numbered-refused {u = u} {v = v} a number {t} e =
+    subst (Numbered t u) (sym e) (record { later = λ z. rw number (late-number v (a .later z)); no-counts = λ ne. (refl, refl, refl) })
+
+pub numbered-broken : {u : Update} {t : Tallies} {r : Updated} → r ≡ refusedBy 9 t → Numbered t u r
+numbered-broken {u} {t} e = subst (Numbered t u) (sym e) (record { later = λ z. inr (inr (inr refl)); no-counts = λ ne. (refl, refl, refl) })
+
+pub numbered-done : (t : Tallies) (u : Update) (r : Updated) → r .number ≡ 0 → Numbered t u r
+numbered-done t u r z = record { later = λ _. inl z; no-counts = λ ne. absurd (ne z) }

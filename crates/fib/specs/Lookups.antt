@@ -3,8 +3,8 @@ use mathlib.Core.Path.{_≡_}
 use mathlib.Core.List.{List, _∷_, map}
 use Prim.Native.Nat.{ℕ, suc, _-_, _≤_, _<_}
 use lib.ListN.{length, take}
-use Rattle.prefix.specs.Bits.{Bits}
-use Rattle.prefix.specs.Prefix.{common}
+use Rattle.prefix.specs.Bits.{Bits, bits}
+use Rattle.prefix.specs.Prefix.{common, trimmed}
 use Rattle.tallies.specs.Counting.{afterHit, afterMiss}
 use Rattle.tallies.specs.declared.Tallies.{Tallies}
 use Rattle.model.specs.Lists.{largest}
@@ -14,7 +14,7 @@ use Rattle.model.specs.Demands.{NoneCached}
 use Rattle.slots.specs.Layout.{limitOf, entriesHeld, cacheOf, Shaped}
 use Rattle.cache.specs.Caches.{entries, entryIn, othersIn, SoundEntries, Holds}
 use Rattle.fib.specs.Pairs.{SoundPair, limitsOf}
-use Rattle.fib.specs.Calls.{stateOf, answerOf, Reached, CacheKept}
+use Rattle.fib.specs.Calls.{stateOf, answerOf, ClearedIn, Reached, CacheKept}
 use Rattle.fib.specs.declared.lookup.Answer.the-variants.{Hit}
 use Rattle.fib.specs.declared.lookup.Looked.{Looked}
 use Rattle.fib.specs.declared.lookup.Room.{Room}
@@ -27,6 +27,7 @@ lookAt table cache tallies X = step (limitsOf table cache) (stateOf table cache 
 
 pub record LookedAt (table cache cache′ : List ℕ) (tallies : Tallies) (X : Bits) (r : Looked) : Type 0 where
   pub answer : answerOf (r .answer) ≡ lookAt table cache tallies X .answer
+  pub cleared : ClearedIn (r .answer)
   pub state : Reached table cache′ (r .tallies) (lookAt table cache tallies X .state)
   pub sound : SoundPair table cache′
   pub kept : CacheKept cache cache′
@@ -44,9 +45,15 @@ pub record Used (w w′ : List ℕ) (k : ℕ) (tallies : Tallies) (r : Looked) :
   pub holds : SoundEntries w → Holds w′ (entryIn w k ∷ othersIn w k)
   pub kept : CacheKept w w′
 
+-- the address of the first n bits of X
+pub record FirstBits (X : Bits) (n address : ℕ) : Type 0 where
+  pub short : n ≤ 32
+  pub are-bits : bits 32 address ≡ trimmed n X
+
 -- the first n bits of X have come in
 pub record Stored (w w′ : List ℕ) (X : Bits) (n hop examined : ℕ) (tallies : Tallies) (r : Looked) : Type 0 where
   pub answer : answerOf (r .answer) ≡ model.miss hop (take n X) examined
+  pub cleared : ClearedIn (r .answer)
   pub counted : r .tallies ≡ afterMiss tallies (suc (length (entries w)) - limitOf w)
   pub holds : Holds w′ (take (limitOf w) (record { prefix = take n X; hop = hop } ∷ entries w))
   pub kept : CacheKept w w′

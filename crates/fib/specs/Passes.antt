@@ -2,6 +2,7 @@
 use mathlib.Core.Path.{_≡_}
 use mathlib.Core.Bool.{Bool, true, false, _&&_}
 use mathlib.Core.List.{List}
+use mathlib.Core.Logic.{_⊎_}
 use Prim.Native.Nat.{ℕ, _+_, _-_, _≤_, _<_}
 use lib.ListN.{length, take}
 use Rattle.prefix.specs.Prefix.{same}
@@ -13,7 +14,7 @@ use Rattle.model.specs.Model.{Entry, withdraws, leaves, fresh, refreshed, remov
 use Rattle.slots.specs.Layout.{entriesHeld, Shaped}
 use Rattle.table.specs.Tables.{ipv4Bits, routes, SoundTable}
 use Rattle.cache.specs.Caches.{entries, SoundEntries, Slot, entryIn, Kept}
-use Rattle.updates.specs.Updates.{actionOf, prefixOfUpdate, updateOf}
+use Rattle.updates.specs.Updates.{firstRefusal, actionOf, prefixOfUpdate, updateOf}
 use Rattle.updates.specs.declared.Prefix.{Prefix}
 use Rattle.updates.specs.declared.Update.{Update}
 use Rattle.fib.specs.declared.update.Pass.{Pass}
@@ -109,3 +110,8 @@ pub record Passed (table w w′ : List ℕ) (u : Update) (r : Pass) : Type 0 whe
 
 abbrev pub refusedBy : ℕ → Tallies → Updated
 refusedBy number tallies = record { number = number; removed = 0; changed = 0; tallies = tallies }
+
+-- on any pair of stores: "which of 3, 4, 9 or 0 comes", and that no refusal counts
+pub record Numbered (tallies : Tallies) (u : Update) (r : Updated) : Type 0 where
+  pub later : firstRefusal u ≡ 0 → (r .number ≡ 0) ⊎ (r .number ≡ 3) ⊎ (r .number ≡ 4) ⊎ (r .number ≡ 9)
+  pub no-counts : ¬ (r .number ≡ 0) → (r .removed ≡ 0) × (r .changed ≡ 0) × (r .tallies ≡ tallies)

@@ -8,12 +8,11 @@ use tallies::Tallies;
 ghost use mathlib.Core.Path.{_≡_};
 ghost use Prim.Native.Nat.{max, _≤_};
 ghost use lib.ListN.{take};
-ghost use Rattle.prefix.specs.Bits.{bits};
 ghost use Rattle.slots.specs.Layout.{limitOf, entriesHeld, Shaped};
 ghost use Rattle.cache.specs.Caches.{ipv4Bits, Slot, SoundEntries, Free};
 ghost use Rattle.fib.specs.Pairs.{SoundPair};
 ghost use Rattle.fib.specs.Calls.{LookedUp};
-ghost use Rattle.fib.specs.Lookups.{Missed, LookedAt, Used, Stored, MadeRoom};
+ghost use Rattle.fib.specs.Lookups.{Missed, LookedAt, Used, FirstBits, Stored, MadeRoom};
 
 pub enum Answer {
     // hop
@@ -75,7 +74,7 @@ fn miss(table: &[u32], cache: &mut [u32], h: Header, x: Address, past: u32, t: T
 {
     let s = search::longest_match(table, x);
     let found = s.found;
-    let Found::Match(hop, _) = found else {
+    let Found::Match(hop, length) = found else {
         return Looked {
             answer: Answer::Drop(s.examined),
             tallies: tallies::count_drop(t),
@@ -125,7 +124,7 @@ fn store_entry(
 // The first n bits of x, and zeros after them.
 fn stored_address(x: Address, n: u32) -> u32
     requires { ⌜ n ≤ 32 ⌝ }
-    ensures { λ r. ⌜ take n (bits 32 r) ≡ take n (ipv4Bits x) ⌝ }
+    ensures { λ r. ⌜ FirstBits (ipv4Bits x) n r ⌝ }
 {
     prefix::to_ipv4(prefix::trim_high(x, n))
 }

@@ -10,7 +10,7 @@ ghost use mathlib.Core.Path.{_≡_};
 ghost use Prim.Native.Nat.{_<_, _≤_};
 ghost use Rattle.slots.specs.Layout.{entriesHeld, Shaped};
 ghost use Rattle.fib.specs.Calls.{UpdatePromise};
-ghost use Rattle.fib.specs.Passes.{Within, nextPass, Stepped, Drops, Keeps, Turns, Withdrawn, Alike, Passed, refusedBy};
+ghost use Rattle.fib.specs.Passes.{Within, nextPass, Stepped, Drops, Keeps, Turns, Withdrawn, Alike, Passed, refusedBy, Numbered};
 
 pub struct Updated {
     // 0, or the number of the refusal
@@ -24,6 +24,7 @@ pub struct Updated {
 // The table first. A refusal by the table is the answer, and nothing has changed; else the cache is brought up to it.
 pub fn update_pair(table: &mut [u32], cache: &mut [u32], t: Tallies, u: Update) -> Updated
     ensures { λ r. ⌜ UpdatePromise (now (table .entry)) (now (cache .entry)) (now (table .exit)) (now (cache .exit)) t u r ⌝ }
+    ensures { λ r. ⌜ Numbered t u r ⌝ }
 {
     let number = updates::verdict_number(updates::update_table(table, u));
     if number != 0 {

@@ -4,18 +4,17 @@ use mathlib.Core.Bool.{false}
 use mathlib.Core.List.{List}
 use mathlib.Core.Logic.{_⊎_, inl, inr}
 use mathlib.Core.Option.{some}
-use Prim.Native.Nat.{ℕ, suc, _+_, _-_, _*_, _≤_, _<_}
+use Prim.Native.Nat.{ℕ, _+_, _-_, _≤_, _<_}
 use native.Mathlib.Omega.{arith}
-use lib.ListN.{length, drop}
+use lib.ListN.{length}
 use Rattle.prefix.specs.Bits.{Bits}
-use Rattle.sizes.specs.Sizes.{tableNeed}
 use Rattle.model.specs.Routes.{announce, withdraw, Update, held, updated}
 use Rattle.model.specs.Demands.{Hop, SameRoutes}
 use Rattle.trie.specs.Trie.{Trie, Sound, Branchy, Dense, Held, Put, Removed}
 use Rattle.trie.specs.Routes.{routesOf}
 use Rattle.trie.proofs.Holding.{put-updated, removed-updated, put-length-held, put-length-new, removed-length}
 use Rattle.trie.proofs.Counting.{slots-fit}
-use Rattle.nodes.specs.Layout.{limitOf, nodesOf, routeCount, trieOf, Plain}
+use Rattle.nodes.specs.Layout.{limitOf, nodesOf, routeCount, trieOf}
 use Rattle.nodes.specs.Stores.{putCounts}
 use Rattle.nodes.proofs.Keeping.{HeaderIs, counts-header, counts-past}
 use Rattle.nodes.proofs.Plainness.{plain-fewer, plain-counts}

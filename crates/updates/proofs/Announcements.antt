@@ -1,9 +1,9 @@
 -- What an announcement answers, by where its prefix belongs. Assumes nothing.
-use mathlib.Core.Path.{_≡_, refl, sym, ap, _∙_}
+use mathlib.Core.Path.{_≡_, refl, sym, _∙_}
 use mathlib.Core.Bool.{Bool, true, false, not, cond}
 use mathlib.Core.List.{List}
-use mathlib.Core.Option.{none, some}
-use Prim.Native.Nat.{ℕ, suc, _+_, _-_, _*_, _/_, _≤_, _<_}
+use mathlib.Core.Option.{some}
+use Prim.Native.Nat.{ℕ, suc, _+_, _-_, _*_, _≤_, _<_}
 use native.Mathlib.Numerals.{add-one}
 use native.Mathlib.Omega.{arith}
 use lib.ListN.{length, take, getD}
@@ -14,7 +14,6 @@ use Rattle.prefix.specs.Prefix.{contains, common, shared}
 use Rattle.prefix.specs.Addresses.{addressBits}
 use Rattle.prefix.specs.declared.Address.{Address}
 use Rattle.model.specs.Demands.{Hop}
-use Rattle.model.specs.Routes.{announce}
 use Rattle.trie.specs.Trie.{Kid, Trie, Dense, Put}
 use Rattle.trie.specs.Updates.{hopAt, leafAt, spliceAt, forkAt}
 use Rattle.trie.proofs.Announcing.{dense-joined, put-hop, put-leaf, put-above, put-fork}

@@ -1,18 +1,16 @@
 -- What the stores of an announcement keep, and the trie that they leave. Assumes nothing.
-use mathlib.Core.Path.{_≡_, refl, sym, ap, _∙_}
-use mathlib.Core.Bool.{Bool, true, false, not}
+use mathlib.Core.Path.{_≡_, _∙_}
+use mathlib.Core.Bool.{true, false}
 use mathlib.Core.List.{List}
-use mathlib.Core.Option.{Option, none, some}
-use Prim.Native.Nat.{ℕ, zero, suc, _+_, _-_, _*_, _/_, _≤_, _<_}
-use native.Mathlib.Decide.{ℕ-discrete}
+use mathlib.Core.Option.{some}
+use Prim.Native.Nat.{ℕ, zero, suc, _+_, _-_, _*_, _≤_, _<_}
 use native.Mathlib.Omega.{arith}
 use lib.ListN.{length}
 use Rattle.prefix.specs.Bits.{Bits, one?}
 use Rattle.prefix.specs.Prefix.{prefixOf}
 use Rattle.sizes.specs.Sizes.{tableNeed}
-use Rattle.trie.specs.Trie.{Kid}
-use Rattle.trie.specs.Updates.{setChild, setUp, setSlot, leafAt, onSide, spliceAt, forkAt}
-use Rattle.nodes.specs.Layout.{limitOf, numbered, cellOf, trieOf, Room}
+use Rattle.trie.specs.Updates.{setChild, setUp, setSlot, leafAt, onSide, spliceAt}
+use Rattle.nodes.specs.Layout.{limitOf, numbered, cellOf, trieOf}
 use Rattle.nodes.specs.Stores.{putNode}
 use Rattle.nodes.specs.declared.Node.{Node}
 use Rattle.nodes.proofs.Coding.{numbered-node, none-numbered, cell-side}
@@ -50,7 +48,7 @@ module _ (w : List ℕ) (m : ℕ) (enough : tableNeed (limitOf w) ≤ length w) 
     unfolding inserted
     inserted-kept = child-kept w (m + 1) enough fit (next-kept w m enough (omega arith) k g fit) (n .up) (m + 1) (g .up) (omega arith)
 
-    pub inserted-trie : {P : Bits} {len mark left right up : ℕ} → NodeOf P len mark left right up n
+    inserted-trie : {P : Bits} {len mark left right up : ℕ} → NodeOf P len mark left right up n
         → trieOf (inserted u (m + 1) n) ≡ setChild (setSlot (trieOf u) m P (numbered mark) (cellOf up) (numbered left) (numbered right)) (cellOf up) (some m)
     unfolding inserted
     inserted-trie {P} {len} {mark} {left} {right} {up} h =

@@ -1,15 +1,14 @@
 -- What one store keeps: the header, the words past the need, and what is read of the nodes in use. Assumes nothing.
-use mathlib.Core.Path.{_≡_, refl, sym, ap, _∙_}
+use mathlib.Core.Path.{_≡_, refl, _∙_}
 use mathlib.Core.List.{List}
-use Prim.Native.Nat.{ℕ, _+_, _*_, _/_, _%_, _≤_, _<_}
-use native.Mathlib.Decide.{decLe}
+use Prim.Native.Nat.{ℕ, _+_, _*_, _≤_}
 use native.Mathlib.Omega.{arith}
 use lib.ListN.{length, drop}
 use Rattle.sizes.specs.Sizes.{tableNeed}
-use Rattle.nodes.specs.Layout.{nodeWord, cellWord, word, limitOf, nodesOf, Room, Plain}
-use Rattle.nodes.specs.Stores.{putMark, putUp, putChild, putNode, nodeIn}
+use Rattle.nodes.specs.Layout.{limitOf, nodesOf, Room, Plain}
+use Rattle.nodes.specs.Stores.{putMark, putUp, putChild, putNode}
 use Rattle.nodes.specs.declared.Node.{Node}
-use Rattle.nodes.proofs.Keeping.{SameHeader, header-is, mark-header, up-header, child-header, node-header, mark-past, up-past, child-past, node-past, node-back}
+use Rattle.nodes.proofs.Keeping.{SameHeader, header-is, mark-header, up-header, child-header, node-header, mark-past, up-past, child-past, node-past}
 use Rattle.nodes.proofs.Plainness.{plain-mark, plain-up, plain-child, plain-node, plain-next}
 use Rattle.table.specs.Tables.{SoundTable}
 use Rattle.updates.proofs.Linking.{CellIn, Linked, sound-linked, linked-mark, linked-child, linked-up, linked-node, linked-next, GoodNode}

@@ -1,5 +1,5 @@
 -- What the stores of a withdrawal keep, and the trie that they leave. Assumes nothing.
-use mathlib.Core.Path.{_≡_, refl, sym, ap, _∙_}
+use mathlib.Core.Path.{_≡_, refl, _∙_}
 use mathlib.Core.Bool.{false, true}
 use mathlib.Core.List.{List}
 use Prim.Native.Nat.{ℕ, _+_, _-_, _*_, _/_, _≤_, _<_}
@@ -25,20 +25,20 @@ use Rattle.updates.proofs.Kept.{Kept, room, child-kept, up-kept, node-k
 
 module _ (w : List ℕ) (m : ℕ) (enough : tableNeed (limitOf w) ≤ length w) (fit : m ≤ 2 * limitOf w) where
   module _ {u : List ℕ} (k : Kept w m u) (cell p : ℕ) (i : CellIn m cell) (l : p ≤ m) where
-    pub pointed-kept : Kept w m (pointed u m cell p)
+    pointed-kept : Kept w m (pointed u m cell p)
     pointed-kept = rw (← a-cell u m cell p (i .0) (i .1) refl) (child-kept w m enough fit k cell p i l)
 
-    pub pointed-trie : trieOf (pointed u m cell p) ≡ setChild (trieOf u) (cellOf cell) (numbered p)
+    pointed-trie : trieOf (pointed u m cell p) ≡ setChild (trieOf u) (cellOf cell) (numbered p)
     pointed-trie = rw (← a-cell u m cell p (i .0) (i .1) refl) (trie-child u cell p (i .0) (room w m enough fit k (cell / 2) (i .1)))
 
-    pub hung-kept : Kept w m (hung u m p cell)
+    hung-kept : Kept w m (hung u m p cell)
     hung-kept = go (ℕ-discrete p 0)
       where
         go : Dec (p ≡ 0) → Kept w m (hung u m p cell)
         go (yes z) = rw (← no-node u m cell p z) k
         go (no n) = rw (← a-node u m cell p n l refl) (up-kept w m enough fit k cell p i l)
 
-    pub hung-trie : trieOf (hung u m p cell) ≡ setUpOf (trieOf u) (numbered p) (cellOf cell)
+    hung-trie : trieOf (hung u m p cell) ≡ setUpOf (trieOf u) (numbered p) (cellOf cell)
     hung-trie = go (ℕ-discrete p 0)
       where
         go : Dec (p ≡ 0) → trieOf (hung u m p cell) ≡ setUpOf (trieOf u) (numbered p) (cellOf cell)
@@ -80,11 +80,11 @@ module _ (w : List ℕ) (m : ℕ) (enough : tableNeed (limitOf w) ≤ length w) 
     k₂ : Kept w m (hung (pointed (putNode u t n) m (n .up) t) m (n .left) (2 * t))
     k₂ = hung-kept k₁ (2 * t) (n .left) left-cell (g .left)
 
-    pub placed-kept : Kept w m (placed u m t n)
+    placed-kept : Kept w m (placed u m t n)
     unfolding placed
     placed-kept = hung-kept k₂ (2 * t + 1) (n .right) right-cell (g .right)
 
-    pub placed-trie : trieOf (placed u m t n)
+    placed-trie : trieOf (placed u m t n)
         ≡ setUpOf (setUpOf (setChild (setSlot (trieOf u) (t - 1) (prefixOf 32 (n .address) (n .length)) (numbered (n .mark)) (cellOf (n .up)) (numbered (n .left)) (numbered (n .right)))
         (cellOf (n .up)) (numbered t)) (numbered (n .left)) (cellOf (2 * t))) (numbered (n .right)) (cellOf (2 * t + 1))
     unfolding placed

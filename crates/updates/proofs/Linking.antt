@@ -5,12 +5,11 @@ use mathlib.Core.List.{List}
 use Prim.Native.Nat.{ℕ, zero, suc, _+_, _-_, _/_, _%_, _≤_, _<_}
 use native.Mathlib.Decide.{ℕ-discrete, decLe, decLt}
 use native.Mathlib.Omega.{arith}
-use lib.ListN.{length, drop, set}
+use lib.ListN.{length, set}
 use lib.Seq.{getD-set-same, getD-set-other, set-out}
-use Rattle.sizes.specs.Sizes.{tableNeed}
 use Rattle.prefix.specs.Bits.{one?}
 use Rattle.trie.specs.Trie.{Inside, Dense}
-use Rattle.nodes.specs.Layout.{nodeWord, cellWord, word, limitOf, nodesOf, numbered, cellOf, trieOf, Room, Shaped, Plain}
+use Rattle.nodes.specs.Layout.{nodeWord, cellWord, word, nodesOf, cellOf, Room}
 use Rattle.nodes.specs.Stores.{putMark, putUp, putChild, filledAt, putNode, nodeIn}
 use Rattle.nodes.specs.declared.Node.{Node}
 use Rattle.nodes.proofs.Coding.{numbered-node}
@@ -24,7 +23,7 @@ use Rattle.table.specs.Tables.{SoundTable}
 abbrev pub CellIn : ℕ → ℕ → Type 0
 CellIn m q = (¬ (q ≡ 1)) × (q / 2 ≤ m)
 
-pub cell-inside : (m q : ℕ) → CellIn m q → Inside (Dense m) (cellOf q)
+cell-inside : (m q : ℕ) → CellIn m q → Inside (Dense m) (cellOf q)
 unfolding cellOf
 cell-inside m zero h = tt
 cell-inside m (suc q) (n, h) = omega arith

@@ -1,17 +1,17 @@
 -- Where a prefix and that of a node part: what the agreed bits tell. Assumes nothing.
-use mathlib.Core.Path.{_≡_, refl, sym, ap, _∙_}
-use mathlib.Core.Bool.{Bool, true, false, not}
-use Prim.Native.Nat.{ℕ, _≤_, _<_, min}
+use mathlib.Core.Path.{_≡_, refl, sym, _∙_}
+use mathlib.Core.Bool.{Bool, true, false}
+use Prim.Native.Nat.{ℕ, _≤_, _<_}
 use native.Mathlib.Decide.{decLe}
 use native.Mathlib.Omega.{arith}
 use lib.ListN.{length, take, getD}
 use lib.Seq.{take-take, getD-take, length-take-le}
 use borrow.Author.Tests.{le-leb, lt-leb}
-use Rattle.prefix.specs.Bits.{Bits, one?, digit}
-use Rattle.prefix.specs.Prefix.{contains, common, shared, _⊑_, Below}
+use Rattle.prefix.specs.Bits.{one?, digit}
+use Rattle.prefix.specs.Prefix.{contains, common, shared}
 use Rattle.prefix.specs.Addresses.{addressBits}
 use Rattle.prefix.specs.declared.Address.{Address}
-use Rattle.prefix.proofs.Order.{⊑-length, ⊑-eq, ⊑-of-eq, below-<}
+use Rattle.prefix.proofs.Order.{⊑-eq, ⊑-of-eq, below-<}
 use Rattle.prefix.proofs.Common.{common-take, shared-length, shared-fork}
 use Rattle.prefix.proofs.Tests.{contains-⊑, not-⊑, contains-common}
 use Rattle.prefix.proofs.AddressLaws.{length-address}

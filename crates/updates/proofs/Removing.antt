@@ -1,30 +1,28 @@
 -- The route at a node is gone, for each shape in which the node can stand. Assumes nothing.
 use mathlib.Core.Path.{_≡_, refl, sym, ap, _∙_}
-use mathlib.Core.Bool.{Bool, false, true, not}
+use mathlib.Core.Bool.{false, true, not}
 use mathlib.Core.List.{List}
-use mathlib.Core.Option.{none, some, Option·none-ne-some}
+use mathlib.Core.Option.{none, some}
 use Prim.Native.Nat.{ℕ, _+_, _-_, _*_, _/_, _%_, _≤_, _<_}
 use native.Mathlib.Nat.{add-zero}
 use native.Mathlib.Omega.{arith}
-use lib.ListN.{length}
 use Rattle.prefix.specs.Bits.{one?}
 use Rattle.prefix.proofs.Order.{below-<}
-use Rattle.sizes.specs.Sizes.{tableNeed}
-use Rattle.trie.specs.Trie.{Root, Kid, Dense, Held, Removed}
-use Rattle.trie.specs.Updates.{unhopAt, cutAt, fillAt, fillBoth}
+use Rattle.trie.specs.Trie.{Kid, Dense, Held, Removed}
+use Rattle.trie.specs.Updates.{unhopAt, cutAt, fillAt}
 use Rattle.trie.proofs.Withdrawing.{withdraw-hop, withdraw-one, withdraw-root, withdraw-leaf, withdraw-pair}
-use Rattle.nodes.specs.Layout.{nodeWord, cellWord, word, limitOf, nodesOf, routeCount, numbered, cellOf, trieOf}
+use Rattle.nodes.specs.Layout.{nodeWord, cellWord, word, nodesOf, routeCount, numbered, cellOf, trieOf}
 use Rattle.nodes.specs.Stores.{putMark, putCounts}
 use Rattle.nodes.specs.declared.Header.{Header}
 use Rattle.nodes.proofs.Coding.{numbered-node, none-numbered, cell-root, cell-side}
 use Rattle.nodes.proofs.Spelling.{hop-word, up-word, child-word, trie-mark}
 use Rattle.table.specs.Tables.{SoundTable}
 use Rattle.updates.specs.Updates.{TableAfter}
-use Rattle.updates.specs.Writes.{cut, closed, without, withoutBoth}
+use Rattle.updates.specs.Writes.{without, withoutBoth}
 use Rattle.updates.specs.Steps.{withdrawalAt, RouteAt, Gone}
 use Rattle.updates.specs.declared.Verdict.the-variants.{Done, Unsound}
 use Rattle.updates.proofs.Linking.{CellIn, other-side}
-use Rattle.updates.proofs.Kept.{Kept, kept-all, room, mark-kept}
+use Rattle.updates.proofs.Kept.{kept-all, room, mark-kept}
 use Rattle.updates.proofs.Leaving.{cut-kept, cut-trie, closed-kept, closed-trie, both-kept, both-trie}
 use Rattle.updates.proofs.After.{gone-after}
 use Rattle.updates.proofs.Verdicts.{late-done, late-unsound}

@@ -1,8 +1,8 @@
 -- What the place where the descent stopped tells of the prefix that was sought. Assumes nothing.
-use mathlib.Core.Path.{_≡_, refl, sym, ap, _∙_}
+use mathlib.Core.Path.{_≡_, sym, ap, _∙_}
 use mathlib.Core.Bool.{false}
 use mathlib.Core.List.{List}
-use mathlib.Core.Option.{none, some}
+use mathlib.Core.Option.{some}
 use Prim.Native.Nat.{ℕ, _+_, _-_, _*_, _/_, _≤_, _<_}
 use native.Mathlib.Omega.{arith}
 use lib.ListN.{length, take, getD}
@@ -43,7 +43,7 @@ module _ (w : List ℕ) (shape : Shape) (read : HeaderRead w shape) where
   broken e n u = unsound w w n u (λ s. (rw e at read) (s .shaped))
 
   module _ (h : Header) (told : shape ≡ Fits h) where
-    pub header-told : HeaderRead w (Fits h)
+    header-told : HeaderRead w (Fits h)
     header-told = rw told at read
 
     pub header-shaped : Shaped w
@@ -64,10 +64,10 @@ module _ (w : List ℕ) (shape : Shape) (read : HeaderRead w shape) where
 -- ---- what the descent's answer tells
 
 module _ (w : List ℕ) (a : Address) (n : ℕ) (short : n ≤ 32) (stop : Stop) (at : Stopped w (ipv4Bits a) n stop) (s : SoundTable w) where
-  pub stop-last : walk.descent (trieOf w) (take n (ipv4Bits a)) .last ≡ numbered (stop .last)
+  stop-last : walk.descent (trieOf w) (take n (ipv4Bits a)) .last ≡ numbered (stop .last)
   stop-last = sym (ap (λ (r : walk.Stop). r .last) (at .place s))
 
-  pub stop-beyond : walk.descent (trieOf w) (take n (ipv4Bits a)) .beyond ≡ numbered (stop .beyond)
+  stop-beyond : walk.descent (trieOf w) (take n (ipv4Bits a)) .beyond ≡ numbered (stop .beyond)
   stop-beyond = sym (ap (λ (r : walk.Stop). r .beyond) (at .place s))
 
   -- no node contains it
@@ -75,10 +75,10 @@ module _ (w : List ℕ) (a : Address) (n : ℕ) (short : n ≤ 32) (stop : Stop)
   landed-first z = landed-root (s .trie) _ (stop-last ∙ rw z none-numbered)
 
   module _ (some-last : ¬ (stop .last ≡ 0)) (own : ℕ) (is-own : own ≡ word w (nodeWord (stop .last) 1)) where
-    pub last-node : walk.descent (trieOf w) (take n (ipv4Bits a)) .last ≡ some (stop .last - 1)
+    last-node : walk.descent (trieOf w) (take n (ipv4Bits a)) .last ≡ some (stop .last - 1)
     last-node = stop-last ∙ numbered-node (stop .last) (omega arith)
 
-    pub last-length : length (trieOf w .prefix (stop .last - 1)) ≡ own
+    last-length : length (trieOf w .prefix (stop .last - 1)) ≡ own
     last-length = own-length w (stop .last) (omega arith) own is-own (rw is-own (s .plain .short (stop .last) (omega arith) (at .last-in)))
 
     -- the last node that contains it is shorter
@@ -86,7 +86,7 @@ module _ (w : List ℕ) (a : Address) (n : ℕ) (short : n ≤ 32) (stop : Stop)
     landed-after ne = landed-below (s .trie) _ (stop .last - 1) last-node (λ z. ne (omega (arith, last-length, length-sought a n short)))
 
     -- it is the last node's
-    pub own-node : own ≡ n → (stop .last - 1 < nodesOf w) × (trieOf w .prefix (stop .last - 1) ≡ take n (ipv4Bits a))
+    own-node : own ≡ n → (stop .last - 1 < nodesOf w) × (trieOf w .prefix (stop .last - 1) ≡ take n (ipv4Bits a))
     own-node e = at-last (s .trie) _ (stop .last - 1) last-node (last-length ∙ e ∙ sym (length-sought a n short))
 
   pub landed-new : Landed (Dense (nodesOf w)) (trieOf w) (take n (ipv4Bits a)) (walk.descent (trieOf w) (take n (ipv4Bits a))) → held (routes w) (take n (ipv4Bits a)) ≡ false
@@ -95,7 +95,7 @@ module _ (w : List ℕ) (a : Address) (n : ℕ) (short : n ≤ 32) (stop : Stop)
 
   -- the cell where the descent stopped
   module _ (d : Landed (Dense (nodesOf w)) (trieOf w) (take n (ipv4Bits a)) (walk.descent (trieOf w) (take n (ipv4Bits a)))) where
-    pub belongs-at : (cell : ℕ) → ¬ (cell ≡ 1) → walk.cellAfter (trieOf w) (take n (ipv4Bits a)) (walk.descent (trieOf w) (take n (ipv4Bits a)) .last) ≡ cellOf cell → Belongs w (take n (ipv4Bits a)) cell (stop .beyond)
+    belongs-at : (cell : ℕ) → ¬ (cell ≡ 1) → walk.cellAfter (trieOf w) (take n (ipv4Bits a)) (walk.descent (trieOf w) (take n (ipv4Bits a)) .last) ≡ cellOf cell → Belongs w (take n (ipv4Bits a)) cell (stop .beyond)
     belongs-at cell ne e = record {
       is-cell = ne;
       inside = rw e at (d .inside);
@@ -105,7 +105,7 @@ module _ (w : List ℕ) (a : Address) (n : ℕ) (short : n ≤ 32) (stop : Stop)
       new = landed-new d;
     }
 
-    pub belongs-first : stop .last ≡ 0 → Belongs w (take n (ipv4Bits a)) 0 (stop .beyond)
+    belongs-first : stop .last ≡ 0 → Belongs w (take n (ipv4Bits a)) 0 (stop .beyond)
     unfolding walk.cellAfter
     belongs-first z = belongs-at 0 (λ y. omega arith) (rw (stop-last, z, none-numbered, cell-root))
 
@@ -114,10 +114,10 @@ module _ (w : List ℕ) (a : Address) (n : ℕ) (short : n ≤ 32) (stop : Stop)
       unfolding walk.cellAfter
       after = rw (last-node some-last own is-own, walk.cellAfter, last-length some-last own is-own)
 
-      pub own-shorter : own < n
+      own-shorter : own < n
       own-shorter = omega (arith, below-< (rw after at (d .fits)), last-length some-last own is-own, length-sought a n short)
 
-      pub belongs-after : (side : ℕ) → side ≡ digit (getD (addressBits a) own false) → Belongs w (take n (ipv4Bits a)) (2 * stop .last + side) (stop .beyond)
+      belongs-after : (side : ℕ) → side ≡ digit (getD (addressBits a) own false) → Belongs w (take n (ipv4Bits a)) (2 * stop .last + side) (stop .beyond)
       belongs-after side e =
           let small = bit-small (addressBits a) own side e in
           let b : one? side ≡ getD (take n (ipv4Bits a)) own false =
@@ -158,12 +158,6 @@ module _ (w : List ℕ) (h : Header) (stop : Stop) (a : Address) (n hop : ℕ) (
   module _ (pos : 0 < stop .last) where
     some-last : ¬ (stop .last ≡ 0)
     some-last z = omega arith
-
-    pub sought-room : Room w (stop .last)
-    sought-room = omega (arith, header .0 .enough, header .0 .nodes-fit, at .last-in)
-
-    pub sought-node : NodeAt w h (stop .last)
-    sought-node = record { header = header; some-node = pos; in-use = omega (arith, at .last-in, header .2) }
 
     module _ (own : ℕ) (is-own : own ≡ word w (nodeWord (stop .last) 1)) where
       pub sought-own : own ≡ n → (w′ : List ℕ) (r : Verdict) → Answered w w′ 0 (announcementAt w (stop .last) hop) r → Answered w w′ n (announcement a n hop) r

@@ -1,5 +1,5 @@
 -- What an update answers, by its length and its action. Assumes nothing.
-use mathlib.Core.Path.{_≡_, refl, sym, ap, _∙_}
+use mathlib.Core.Path.{_≡_, refl, sym}
 use mathlib.Core.Bool.{true, _||_}
 use mathlib.Core.List.{List}
 use Prim.Native.Nat.{ℕ, _≤_, _<_}
@@ -8,8 +8,7 @@ use lib.Dec.{eqb, ltb}
 use borrow.Author.Tests.{eq-eqb, ne-eqb, lt-ltb, le-ltb}
 use Rattle.prefix.proofs.Booleans.{or-right}
 use Rattle.model.specs.Routes as model
-use Rattle.model.specs.Model.{refusal, badHop, highestHop}
-use Rattle.model.specs.Demands.{Hop}
+use Rattle.model.specs.Model.{refusal, highestHop}
 use Rattle.table.specs.Tables.{routes}
 use Rattle.updates.specs.Updates.{actionOf, prefixOfUpdate, firstRefusal, limitsOf, TableUpdated}
 use Rattle.updates.specs.Steps.{announcement, withdrawal, Answered}

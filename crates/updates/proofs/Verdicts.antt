@@ -1,5 +1,5 @@
 -- Which number an update gives. Assumes nothing.
-use mathlib.Core.Path.{_≡_, refl, sym}
+use mathlib.Core.Path.{_≡_, refl, sym, ap}
 use mathlib.Core.Bool.{true, false}
 use mathlib.Core.List.{List}
 use Prim.Native.Nat.{ℕ, _≤_, _<_}
@@ -13,21 +13,19 @@ use Rattle.model.specs.Demands.{Hop}
 use Rattle.table.specs.Tables.{routes, SoundTable}
 use Rattle.updates.specs.Updates.{verdictNumber, limitsOf, TableAfter}
 use Rattle.updates.specs.Steps.{Late, Answered}
-use Rattle.updates.specs.declared.Verdict.the-variants.{Done, TooLong, BadHop, Full, NotHeld, Unsound}
+use Rattle.updates.specs.declared.Verdict.{Verdict}
+use Rattle.updates.specs.declared.Verdict.the-variants.{Done, Full, NotHeld, Unsound}
 
 -- ---- not one of the first refusals
 
+late : (r : Verdict) → ¬ (verdictNumber r ≡ 1) → ¬ (verdictNumber r ≡ 2) → Late r
+late r a b = (λ e. a (ap verdictNumber e), λ e. b (ap verdictNumber e))
+
 pub late-done : Late Done
-late-done = (λ e. let z : _≡_ {A = ℕ} 0 1 = cc in omega arith, λ e. let z : _≡_ {A = ℕ} 0 1 = cc in omega arith)
-
-pub late-full : Late Full
-late-full = (λ e. let z : _≡_ {A = ℕ} 0 1 = cc in omega arith, λ e. let z : _≡_ {A = ℕ} 0 1 = cc in omega arith)
-
-pub late-not-held : Late NotHeld
-late-not-held = (λ e. let z : _≡_ {A = ℕ} 0 1 = cc in omega arith, λ e. let z : _≡_ {A = ℕ} 0 1 = cc in omega arith)
+late-done = late Done (λ z. omega arith) (λ z. omega arith)
 
 pub late-unsound : Late Unsound
-late-unsound = (λ e. let z : _≡_ {A = ℕ} 0 1 = cc in omega arith, λ e. let z : _≡_ {A = ℕ} 0 1 = cc in omega arith)
+late-unsound = late Unsound (λ z. omega arith) (λ z. omega arith)
 
 -- ---- what the model gives
 
@@ -71,7 +69,7 @@ module _ (w w′ : List ℕ) (n : ℕ) (u : Update) where
 
 module _ (w : List ℕ) (n : ℕ) (u : Update) where
   pub full : (SoundTable w → refusal (limitsOf w) (routes w) n (u .prefix) (u .action) ≡ 3) → Answered w w n u Full
-  full f = record { late = late-full; number = λ s. sym (f s); refused = λ s ne. refl; accepted = λ s e. absurd (let z : _≡_ {A = ℕ} 0 1 = cc in omega arith) }
+  full f = record { late = late Full (λ z. omega arith) (λ z. omega arith); number = λ s. sym (f s); refused = λ s ne. refl; accepted = λ s e. absurd (let z : _≡_ {A = ℕ} 0 1 = cc in omega arith) }
 
   pub not-held : (SoundTable w → refusal (limitsOf w) (routes w) n (u .prefix) (u .action) ≡ 4) → Answered w w n u NotHeld
-  not-held f = record { late = late-not-held; number = λ s. sym (f s); refused = λ s ne. refl; accepted = λ s e. absurd (let z : _≡_ {A = ℕ} 0 1 = cc in omega arith) }
+  not-held f = record { late = late NotHeld (λ z. omega arith) (λ z. omega arith); number = λ s. sym (f s); refused = λ s ne. refl; accepted = λ s e. absurd (let z : _≡_ {A = ℕ} 0 1 = cc in omega arith) }

@@ -1,19 +1,19 @@
 -- What a withdrawal answers, by where the descent stopped. Assumes nothing.
 use mathlib.Core.Path.{_≡_, sym, ap, _∙_}
 use mathlib.Core.List.{List, [], _∷_, List·Memᴰ·not-nil}
-use Prim.Native.Nat.{ℕ, _-_, _≤_, _<_}
+use Prim.Native.Nat.{ℕ, _≤_, _<_}
 use native.Mathlib.Omega.{arith}
-use lib.ListN.{length, take}
+use lib.ListN.{length}
 use Rattle.prefix.specs.declared.Address.{Address}
 use Rattle.model.specs.Lists.{_∈_}
 use Rattle.model.specs.Routes.{Route, Table}
 use Rattle.trie.proofs.Holding.{held-in}
 use Rattle.nodes.specs.Layout.{nodeWord, word, nodesOf, trieOf}
 use Rattle.nodes.specs.declared.Header.{Header}
-use Rattle.table.specs.Tables.{ipv4Bits, routes, SoundTable}
+use Rattle.table.specs.Tables.{ipv4Bits, routes}
 use Rattle.table.specs.Stops.{Stopped}
 use Rattle.table.specs.declared.Stop.{Stop}
-use Rattle.updates.specs.Updates.{verdictNumber, limitsOf}
+use Rattle.updates.specs.Updates.{verdictNumber}
 use Rattle.updates.specs.Steps.{withdrawal, withdrawalAt, Answered, NodeAt, RouteAt, Gone}
 use Rattle.updates.specs.declared.Verdict.{Verdict}
 use Rattle.updates.specs.declared.Verdict.the-variants.{NotHeld, Unsound}

@@ -1,5 +1,6 @@
 -- `fib::update::update_pair` meets its contract. Assumes nothing.
-use Rattle.fib.proofs.UpdateLaws.{table-refused, no-cache, all-done, header-shaped, header-entries}
+use Rattle.cache.proofs.EntryChecks.{header-shaped, header-entries}
+use Rattle.fib.proofs.UpdateLaws.{table-refused, no-cache, all-done, numbered-refused, numbered-broken, numbered-done}
 use borrow.Author.Needs.{needs}
 use Rattle.fib.proofs.update.update_pair.Statement.{statement}
 use Rattle.fib.proofs.update.update_pair.Tie as tie
@@ -17,7 +18,7 @@ same-length : tie.Need-same-length
 same-length c = search needs
 
 returns : tie.Need-returns
-returns c = search (needs, table-refused)
+returns c = search (needs, table-refused, numbered-refused)
 
 read-header-requires : tie.Need-read-header-requires
 read-header-requires c κs = search needs
@@ -38,7 +39,7 @@ same-length-3 : tie.Need-same-length-3
 same-length-3 c = search needs
 
 returns-2 : tie.Need-returns-2
-returns-2 c = search (needs, no-cache)
+returns-2 c = search (needs, no-cache, numbered-broken)
 
 refresh-requires : tie.Need-refresh-requires
 refresh-requires c κs = search (needs, header-shaped, header-entries)
@@ -53,7 +54,7 @@ same-length-5 : tie.Need-same-length-5
 same-length-5 c = search needs
 
 returns-3 : tie.Need-returns-3
-returns-3 c = search (needs, all-done)
+returns-3 c = search (needs, all-done, numbered-done)
 
 pub update-pair-spec : {M : Type 1} → statement M
 update-pair-spec =

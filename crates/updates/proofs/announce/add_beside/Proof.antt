@@ -1,6 +1,5 @@
 -- `updates::announce::add_beside` meets its contract. Assumes nothing.
 use Rattle.updates.proofs.Announcements.{bit-most, fork-added}
-use native.Mathlib.Omega.{arith}
 use Rattle.table.proofs.Reading.{bit-small}
 use borrow.Author.Needs.{needs}
 use Rattle.updates.proofs.announce.add_beside.Statement.{statement}
