@@ -186,45 +186,47 @@ spaced (b ∷ []) k h x = absurd (omega arith)
 spaced (b ∷ c ∷ l) k h x = rw (eq-eqb _ _ x, eq-eqb _ _ h)
 
 module _ (l : List ℕ) where
-  pub line-too-long : longest < length l → Bad ≡ lineOf l
-  unfolding lineOf
-  line-too-long h = rw (lt-leb _ _ h)
+  pub fields-too-few : length l < 2 → Bad ≡ fields (parts space l)
+  fields-too-few h = sym (short l h)
 
-  module _ (fits : length l ≤ longest) where
-    line-fits : lineOf l ≡ fields (parts space l)
-    unfolding lineOf
-    line-fits = rw (le-leb _ _ fits)
+  module _ (long : 2 ≤ length l) where
+    pub fields-no-letter : (getD l 1 0 ≡ space → ⊥) → Bad ≡ fields (parts space l)
+    fields-no-letter h = sym (no-space l long h)
 
-    pub line-too-short : length l < 2 → Bad ≡ lineOf l
-    line-too-short h = rw (line-fits, short l h)
+    module _ (second : getD l 1 0 ≡ space) where
+      fields-of-spaces : getD l 0 0 ≡ space → fields (parts space l) ≡ Bad
+      unfolding fields call address parts numbers number both four
+      fields-of-spaces e = rw (spaced l long second e)
 
-    module _ (long : 2 ≤ length l) where
-      pub line-no-space : (getD l 1 0 ≡ space → ⊥) → Bad ≡ lineOf l
-      line-no-space h = rw (line-fits, no-space l long h)
+      fields-of-letter :
+          (getD l 0 0 ≡ space → ⊥)
+          → fields (parts space l) ≡ call (getD l 0 0 ∷ []) (address (before space (drop 2 l))) (numbers largest (rest space (drop (endOf space l 2) l)))
+      unfolding fields
+      fields-of-letter e = rw (lettered l long second e, parts-at space l 2)
 
-      module _ (second : getD l 1 0 ≡ space) (r : Found) (t : r ≡ addressAt l 2) where
-        line-of-spaces : getD l 0 0 ≡ space → lineOf l ≡ Bad
-        unfolding fields call address parts numbers number both four
-        line-of-spaces e = rw (line-fits, spaced l long second e)
-
-        line-of-fields : (getD l 0 0 ≡ space → ⊥) → lineOf l ≡ call (getD l 0 0 ∷ []) (address (before space (drop 2 l))) (numbers largest (rest space (drop (endOf space l 2) l)))
-        unfolding fields
-        line-of-fields e = rw (line-fits, lettered l long second e, parts-at space l 2)
-
-        pub line-no-address : r ≡ Nothing → Bad ≡ lineOf l
+      module _ (r : Found) (t : r ≡ addressAt l 2) where
+        pub fields-no-address : r ≡ Nothing → Bad ≡ fields (parts space l)
         unfolding addressAt call
-        line-no-address h =
+        fields-no-address h =
             by-cases (eqb (getD l 0 0) space)
-            (λ e. rw (line-of-spaces (eqb-true _ _ e)))
-            (λ e. rw (line-of-fields (eqb-false _ _ e), ended-none (address (before space (drop 2 l))) _ (sym t ∙ h)))
+            (λ e. rw (fields-of-spaces (eqb-true _ _ e)))
+            (λ e. rw (fields-of-letter (eqb-false _ _ e), ended-none (address (before space (drop 2 l))) _ (sym t ∙ h)))
 
-        pub line-read : (a e : ℕ) → r ≡ Number a e → (ns : Numbers) → ns ≡ afterAt l e → (q : Line) → q ≡ called (getD l 0 0) a ns → q ≡ lineOf l
+        pub fields-read : (a e : ℕ) → r ≡ Number a e → (ns : Numbers) → ns ≡ afterAt l e → (q : Line) → q ≡ called (getD l 0 0) a ns → q ≡ fields (parts space l)
         unfolding addressAt afterAt
-        line-read a e h ns u q c =
+        fields-read a e h ns u q c =
             by-cases (eqb (getD l 0 0) space)
             (λ x.
             let is = eqb-true _ _ x in
-            c ∙ rw (is, called-space a ns, line-of-spaces is))
+            c ∙ rw (is, called-space a ns, fields-of-spaces is))
             (λ x.
             let (is, end) = ended-told (address (before space (drop 2 l))) (endOf space l 2) (sym t ∙ h) in
-            rw (line-of-fields (eqb-false _ _ x), is, ← end, call-of-letter (getD l 0 0) a, ← u) c)
+            rw (fields-of-letter (eqb-false _ _ x), is, ← end, call-of-letter (getD l 0 0) a, ← u) c)
+
+  pub line-read : length l ≤ longest → (q : Line) → q ≡ fields (parts space l) → q ≡ lineOf l
+  unfolding lineOf
+  line-read h q e = rw (le-leb _ _ h) e
+
+  pub line-too-long : longest < length l → Bad ≡ lineOf l
+  unfolding lineOf
+  line-too-long h = rw (lt-leb _ _ h)

@@ -1,7 +1,7 @@
 // Reading. A line is split at its spaces and an address at its points, so each number is the part before the next mark.
 ghost use mathlib.Core.Path.{_≡_};
 ghost use Prim.Native.Nat.{_+_, _*_, _≤_};
-ghost use Rattle.script.specs.Lines.{lineOf};
+ghost use Rattle.script.specs.Lines.{parts, space, fields, lineOf};
 ghost use Rattle.script.specs.Blocks.{feedAt};
 ghost use Rattle.script.specs.Reading.{partAt, octetAt, addressAt, afterAt, called};
 
@@ -64,23 +64,26 @@ fn part(line: &[u8], at: usize, mark: u8, most: u32) -> Found
         }
         i += 1;
     }
-    if i <= at {
-        return Found::Nothing;
+    if at < i {
+        return Found::Number(value as u32, i);
     }
-    Found::Number(value as u32, i)
+    Found::Nothing
 }
 
 // The octet from a place up to a point, and the place after the point.
 fn octet(line: &[u8], at: usize) -> Found
     ensures { λ r. ⌜ r ≡ octetAt (now (line .entry)) at ⌝ }
 {
-    let Found::Number(value, end) = part(line, at, POINT, 255) else {
-        return Found::Nothing;
-    };
-    if line.len() <= end {
-        return Found::Nothing;
+    match part(line, at, POINT, 255) {
+        Found::Number(value, end) => {
+            if end < line.len() {
+                Found::Number(value, end + 1)
+            } else {
+                Found::Nothing
+            }
+        }
+        Found::Nothing => Found::Nothing,
     }
-    Found::Number(value, end + 1)
 }
 
 // Four octets as one number, the first highest.
@@ -162,15 +165,11 @@ fn call(letter: u8, address: u32, numbers: Numbers) -> Line
     }
 }
 
-// What a line asks for. Its line feed is not part of it.
-pub fn read_line(line: &[u8]) -> Line
-    ensures { λ r. ⌜ r ≡ lineOf (now (line .entry)) ⌝ }
+// What the fields of a line ask for, whatever its length.
+fn read_fields(line: &[u8]) -> Line
+    ensures { λ r. ⌜ r ≡ fields (parts space (now (line .entry))) ⌝ }
 {
-    let length = line.len();
-    if LONGEST < length {
-        return Line::Bad;
-    }
-    if length < 2 {
+    if line.len() < 2 {
         return Line::Bad;
     }
     if line[1] != SPACE {
@@ -180,6 +179,16 @@ pub fn read_line(line: &[u8]) -> Line
         return Line::Bad;
     };
     call(line[0], a, numbers_after(line, end))
+}
+
+// What a line asks for. Its line feed is not part of it.
+pub fn read_line(line: &[u8]) -> Line
+    ensures { λ r. ⌜ r ≡ lineOf (now (line .entry)) ⌝ }
+{
+    if line.len() <= LONGEST {
+        return read_fields(line);
+    }
+    Line::Bad
 }
 
 // ---- lines in a block of bytes

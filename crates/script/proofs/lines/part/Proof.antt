@@ -2,6 +2,7 @@
 use Prim.Native.Nat.{_-_, _≤_}
 use mathlib.Core.Path.{_≡_}
 use mathlib.Core.Logic.{⊎-elim}
+use native.Mathlib.Omega.{arith}
 use lib.ListN.{length}
 use borrow.Author.Needs.{needs}
 use Rattle.script.specs.Reading.{partFrom}
@@ -38,7 +39,10 @@ add-value : tie.Need-add-value Inv-loop μ-loop
 add-value c = search needs
 
 returns-3 : tie.Need-returns-3 Inv-loop μ-loop
-returns-3 c = search (needs, none-too-large)
+returns-3 c =
+    let digit = c .before .before .before in
+    let turn = digit .before .before in
+    none-too-large _ _ _ _ _ _ (turn .before .loop .inv .2) (turn .loop-test .taken) (digit .if1 .left) (c .before .before .if2 .left) (c .before .if3 .left) (omega arith)
 
 add-i : tie.Need-add-i Inv-loop μ-loop
 add-i c = search needs
@@ -49,16 +53,16 @@ loop-less c = search needs
 loop-again : tie.Need-loop-again Inv-loop μ-loop
 loop-again c = search (needs, one-more-digit)
 
-returns-4 : tie.Need-returns-4 Inv-loop μ-loop
-returns-4 c =
-    ⊎-elim (λ w. search (needs, empty-to-end)) (λ w. search (needs, empty-to-mark)) (c .before .loop-test .came)
-
 cast-t16 : tie.Need-cast-t16 Inv-loop μ-loop
 cast-t16 c = search needs
 
+returns-4 : tie.Need-returns-4 Inv-loop μ-loop
+returns-4 c =
+    ⊎-elim (λ w. search (needs, number-to-end)) (λ w. search (needs, number-to-mark)) (c .before .loop-test .came)
+
 returns-5 : tie.Need-returns-5 Inv-loop μ-loop
 returns-5 c =
-    ⊎-elim (λ w. search (needs, number-to-end)) (λ w. search (needs, number-to-mark)) (c .before .loop-test .came)
+    ⊎-elim (λ w. search (needs, empty-to-end)) (λ w. search (needs, empty-to-mark)) (c .before .loop-test .came)
 
 pub part-spec : {M : Type 1} → statement M
 part-spec =
@@ -77,6 +81,6 @@ part-spec =
     add-i
     loop-less
     loop-again
-    returns-4
     cast-t16
+    returns-4
     returns-5)
