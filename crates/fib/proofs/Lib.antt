@@ -13,3 +13,5 @@ pub mod Writing
 pub mod WrittenTables
 pub mod WrittenCaches
 pub mod CarriedPairs
+pub mod Outcomes
+pub mod Runs
