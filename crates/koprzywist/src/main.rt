@@ -135,10 +135,14 @@ fn say(out: &mut [u8], r: Progress, said: Said) -> Progress {
     p
 }
 
+// After a write that failed nothing more is written: what was printed has no gap.
 fn flush(out: &[u8], r: Progress) -> Progress {
     let n = r.waiting;
     let mut p = r;
     p.waiting = 0;
+    if !r.ok {
+        return p;
+    }
     if out.len() < n {
         return p;
     }
@@ -290,7 +294,7 @@ enum More {
     No,
 }
 
-// One block: reads it, answers its lines and keeps the rest.
+// One block: reads it, answers its lines and keeps the rest. There is no more once a write has failed.
 fn next_block(
     table: &mut [u32],
     cache: &mut [u32],
@@ -298,6 +302,10 @@ fn next_block(
     input: &mut [u8],
     h: Held,
 ) -> More {
+    let before = h.progress;
+    if !before.ok {
+        return More::No;
+    }
     let held = h.bytes;
     let got = read_more(input, held);
     if got == 0 {
@@ -310,7 +318,6 @@ fn next_block(
         return More::No;
     }
     let n = held + got;
-    let before = h.progress;
     let r = whole_lines(table, cache, out, &input[..n], before);
     let after = r.progress;
     More::Yes(keep_rest(input, n, r.at, after))

@@ -5,29 +5,32 @@ use borrow.Author.Needs.{needs}
 use Rattle.koprzywist.proofs.next_block.Statement.{statement}
 use Rattle.koprzywist.proofs.next_block.Tie as tie
 
+returns : tie.Need-returns
+returns c = search needs
+
 read-more-requires : tie.Need-read-more-requires
 read-more-requires c κs = search needs
 
 same-length : tie.Need-same-length
 same-length c = search needs
 
-returns : tie.Need-returns
-returns c = search needs
+returns-2 : tie.Need-returns-2
+returns-2 c = search needs
 
 same-length-2 : tie.Need-same-length-2
 same-length-2 c = search needs
 
-returns-2 : tie.Need-returns-2
-returns-2 c = search needs
+returns-3 : tie.Need-returns-3
+returns-3 c = search needs
 
-sub-if3 : tie.Need-sub-if3
-sub-if3 c = search needs
+sub-if4 : tie.Need-sub-if4
+sub-if4 c = search needs
 
 same-length-3 : tie.Need-same-length-3
 same-length-3 c = search needs
 
-returns-3 : tie.Need-returns-3
-returns-3 c = search needs
+returns-4 : tie.Need-returns-4
+returns-4 c = search needs
 
 add-n : tie.Need-add-n
 add-n c = search needs
@@ -56,21 +59,22 @@ same-length-6 c = search needs
 same-length-7 : tie.Need-same-length-7
 same-length-7 c = search needs
 
-returns-4 : tie.Need-returns-4
-returns-4 c = search needs
+returns-5 : tie.Need-returns-5
+returns-5 c = search needs
 
 pub next-block-spec : {M : Type 1} → statement M
 next-block-spec =
     tie.close
     (tie.spec
+    returns
     read-more-requires
     same-length
-    returns
-    same-length-2
     returns-2
-    sub-if3
-    same-length-3
+    same-length-2
     returns-3
+    sub-if4
+    same-length-3
+    returns-4
     add-n
     slice-reshare-prefix-whole-lines
     slice-aggregate-whole-lines
@@ -80,4 +84,4 @@ next-block-spec =
     same-length-5
     same-length-6
     same-length-7
-    returns-4)
+    returns-5)
