@@ -16,8 +16,8 @@ use Rattle.model.proofs.Match.{one-each, match-longest}
 use Rattle.model.proofs.SameRoutes.{flip, match-same, length-same}
 use Rattle.table.specs.Tables.{routes}
 use Rattle.cache.specs.Caches.{entries}
-use Rattle.fib.specs.Pairs.{SoundPair, limitsOf}
-use Rattle.fib.proofs.Pairing.{legal-pair}
+use Rattle.pairs.specs.Pairs.{SoundPair, limitsOf}
+use Rattle.pairs.proofs.Pairing.{legal-pair}
 use Rattle.fib.proofs.Writing.{Words}
 use Rattle.fib.proofs.WrittenTables.{CarriedTable, carried-table}
 use Rattle.fib.proofs.WrittenCaches.{CarriedCache, carried-cache}

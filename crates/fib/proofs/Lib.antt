@@ -1,13 +1,4 @@
-pub mod Pairing
-pub mod Storing
-pub mod Looking
-pub mod Passing
-pub mod Turning
-pub mod Judging
-pub mod Going
-pub mod UpdateLaws
 pub mod UpdateAlike
-pub mod CheckLaws
 pub mod Setups
 pub mod Writing
 pub mod WrittenTables

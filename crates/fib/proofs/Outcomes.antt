@@ -25,12 +25,14 @@ use Rattle.table.specs.Tables.{routes, ipv4Bits, TableSetUp}
 use Rattle.cache.specs.Caches.{entries, CacheSetUp}
 use Rattle.updates.specs.Updates.{actionOf, updateOf, prefixOfUpdate, firstRefusal}
 use Rattle.updates.specs.declared.Update.{Update}
-use Rattle.fib.specs.Pairs.{SoundPair, limitsOf}
-use Rattle.fib.specs.Calls.{stateOf, answerOf, updatedNumber, updatedOf, updateStep, LookedUp, UpdatePromise}
+use Rattle.pairs.specs.Pairs.{SoundPair, limitsOf}
+use Rattle.pairs.specs.States.{stateOf}
+use Rattle.lookup.specs.Promises.{answerOf, LookedUp}
+use Rattle.refresh.specs.Promises.{updatedNumber, updatedOf, updateStep, UpdatePromise}
 use Rattle.fib.specs.Runs.{SameCache, SameTable}
-use Rattle.fib.specs.declared.lookup.Looked.{Looked}
-use Rattle.fib.specs.declared.update.Updated.{Updated}
-use Rattle.fib.proofs.Pairing.{legal-pair}
+use Rattle.lookup.specs.declared.Looked.{Looked}
+use Rattle.refresh.specs.declared.Updated.{Updated}
+use Rattle.pairs.proofs.Pairing.{legal-pair}
 
 pub same-through : {t u v : Table} → SameRoutes t u → SameRoutes v u → SameRoutes t v
 same-through a b = record { to = λ r m. b .from r (a .to r m); from = λ r m. a .from r (b .to r m) }

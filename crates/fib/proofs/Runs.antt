@@ -23,12 +23,14 @@ use Rattle.table.specs.Tables.{routes, TableSetUp}
 use Rattle.cache.specs.Caches.{entries, CacheSetUp}
 use Rattle.updates.specs.Updates.{updateOf}
 use Rattle.updates.specs.declared.Update.{Update}
-use Rattle.fib.specs.Pairs.{SoundPair, limitsOf}
-use Rattle.fib.specs.Calls.{stateOf, answerOf, updatedOf, Reached, LookedUp, Refused, UpdatePromise}
+use Rattle.pairs.specs.Pairs.{SoundPair, limitsOf}
+use Rattle.pairs.specs.States.{stateOf, Reached}
+use Rattle.lookup.specs.Promises.{answerOf, LookedUp}
+use Rattle.refresh.specs.Promises.{updatedOf, Refused, UpdatePromise}
 use Rattle.fib.specs.Runs.{Stores, held, Call, look, update, callOf, Called, by-look, by-update, Calls, no-calls, and-calls, Follows, SoundKept}
-use Rattle.fib.specs.declared.lookup.Looked.{Looked}
-use Rattle.fib.specs.declared.update.Updated.{Updated}
-use Rattle.fib.proofs.Pairing.{legal-pair}
+use Rattle.lookup.specs.declared.Looked.{Looked}
+use Rattle.refresh.specs.declared.Updated.{Updated}
+use Rattle.pairs.proofs.Pairing.{legal-pair}
 use Rattle.fib.proofs.Setups.{fresh-pair, fresh-limits, fresh-holds, table-again, table-refused, cache-again, cache-refused}
 use Rattle.fib.proofs.Outcomes.{lookup-does, update-does, same-through, short-not-done, bad-not-done}
 

@@ -13,7 +13,7 @@ use Rattle.model.specs.Demands.{Covered}
 use Rattle.model.proofs.Match.{match-longest}
 use Rattle.table.specs.Tables.{routes, SoundTable, TableSetUp}
 use Rattle.cache.specs.Caches.{entries, SoundEntries, CacheSetUp}
-use Rattle.fib.specs.Pairs.{SoundPair, limitsOf}
+use Rattle.pairs.specs.Pairs.{SoundPair, limitsOf}
 
 -- a cache that holds nothing is right by every table
 pub empty-cache : (t c : List ℕ) → SoundTable t → SoundEntries c → entries c ≡ [] → SoundPair t c

@@ -8,9 +8,9 @@ use Rattle.model.specs.Demands.{SameRoutes}
 use Rattle.table.specs.Tables.{routes}
 use Rattle.cache.specs.Caches.{entries}
 use Rattle.updates.specs.declared.Update.{Update}
-use Rattle.fib.specs.declared.update.Updated.{Updated}
-use Rattle.fib.specs.Pairs.{SoundPair}
-use Rattle.fib.specs.Calls.{updatedNumber, UpdatePromise}
+use Rattle.refresh.specs.declared.Updated.{Updated}
+use Rattle.pairs.specs.Pairs.{SoundPair}
+use Rattle.refresh.specs.Promises.{updatedNumber, UpdatePromise}
 
 module _ {w x : List ℕ} {t : Tallies} {u : Update} (P : SoundPair w x) {w′ x′ : List ℕ} {r : Updated} (a : UpdatePromise w x w′ x′ t u r) {w″ x″ : List ℕ} {s : Updated} (b : UpdatePromise w x w″ x″ t u s) where
   pub routes-alike : SameRoutes (routes w′) (routes w″)

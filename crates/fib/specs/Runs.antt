@@ -17,10 +17,12 @@ use Rattle.table.specs.Tables.{routes, ipv4Bits, TableSetUp}
 use Rattle.cache.specs.Caches.{entries, CacheSetUp}
 use Rattle.updates.specs.Updates.{actionOf}
 use Rattle.updates.specs.declared.Update.{Update}
-use Rattle.fib.specs.Pairs.{SoundPair, limitsOf}
-use Rattle.fib.specs.Calls.{stateOf, answerOf, updatedOf, LookedUp, UpdatePromise}
-use Rattle.fib.specs.declared.lookup.Looked.{Looked}
-use Rattle.fib.specs.declared.update.Updated.{Updated}
+use Rattle.pairs.specs.Pairs.{SoundPair, limitsOf}
+use Rattle.pairs.specs.States.{stateOf}
+use Rattle.lookup.specs.Promises.{answerOf, LookedUp}
+use Rattle.refresh.specs.Promises.{updatedOf, UpdatePromise}
+use Rattle.lookup.specs.declared.Looked.{Looked}
+use Rattle.refresh.specs.declared.Updated.{Updated}
 
 -- ---- two outcomes of one call
 

@@ -1,9 +1,9 @@
 // The script program: reads calls from standard input, a line each, and prints their answers. The stores are its own: a
 // table of 512 routes and a cache of 3 entries. Input is read and output is written in blocks, so that memory is constant
 // whatever the length of the script.
-use fib::lookup::Answer;
 use libc::STDIN_FILENO;
 use libc::STDOUT_FILENO;
+use lookup::Answer;
 use script::Line;
 use script::Next;
 use script::Said;
@@ -43,7 +43,7 @@ fn update(
         },
         action,
     };
-    let r = fib::update::update_pair(table, cache, t, u);
+    let r = refresh::update_pair(table, cache, t, u);
     let after = r.tallies;
     if r.number == 0 {
         let said = Said::Done(r.removed, r.changed);
@@ -59,7 +59,7 @@ fn update(
 }
 
 fn look(table: &[u32], cache: &mut [u32], t: Tallies, address: u32) -> Answered {
-    let r = fib::lookup::look_up(table, cache, t, address);
+    let r = lookup::look_up(table, cache, t, address);
     let answer = r.answer;
     let said = said_of(answer);
     let after = r.tallies;

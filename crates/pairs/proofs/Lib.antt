@@ -1,0 +1,2 @@
+pub mod Pairing
+pub mod CheckLaws

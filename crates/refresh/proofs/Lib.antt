@@ -1,0 +1,5 @@
+pub mod Passing
+pub mod Turning
+pub mod Judging
+pub mod Going
+pub mod UpdateLaws
