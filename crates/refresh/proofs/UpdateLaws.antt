@@ -23,6 +23,7 @@ use Rattle.model.proofs.Match.{OneEach, one-each}
 use Rattle.model.proofs.Updates.{updated-distinct, fresh-entry, update-refused}
 use Rattle.model.proofs.SameRoutes.{refreshed-same, removed-same, changed-same}
 use Rattle.prefix.proofs.Booleans.{not-false}
+use Rattle.slots.specs.Layout.{Shaped}
 use Rattle.slots.specs.Headers.{HeaderRead}
 use Rattle.slots.specs.declared.Shape.{Shape}
 use Rattle.slots.specs.declared.Shape.the-variants.{Broken}
@@ -37,7 +38,7 @@ use Rattle.refresh.specs.declared.Pass.{Pass}
 use Rattle.refresh.specs.declared.Updated.{Updated}
 use Rattle.pairs.specs.Pairs.{SoundPair, limitsOf}
 use Rattle.pairs.specs.States.{stateOf, Reached}
-use Rattle.refresh.specs.Promises.{updatedOf, updateStep, UpdatedPair, Refused, UpdatePromise, refusedBy, Numbered}
+use Rattle.refresh.specs.Promises.{updatedOf, updateStep, UpdatedPair, Refused, UpdatePromise, unfitNumber, refusedBy, Numbered}
 use Rattle.refresh.specs.Passes.{Renewed, Passed}
 use Rattle.pairs.proofs.Pairing.{legal-pair}
 
@@ -99,9 +100,10 @@ module _ {w w′ : List ℕ} {u : Update} {v : Verdict} (a : TableUpdated w w′
           cache-kept = (refl, refl);
         }
 
-    pub table-refused : (r : Updated) → r ≡ refusedBy k t → UpdatePromise w x w′ x t u r
-    table-refused r e = subst (UpdatePromise w x w′ x t u) (sym e) (record {
+    pub table-refused : Shaped x → (r : Updated) → r ≡ refusedBy k t → UpdatePromise w x w′ x t u r
+    table-refused s r e = subst (UpdatePromise w x w′ x t u) (sym e) (record {
       first = λ ne. (number ∙ a .first ne .0, kept-refused (a .first ne .1));
+      unfit = λ z n. absurd (n s);
       sound-pair = λ P. subst (λ (y : List ℕ). UpdatedPair w x y x t u (refusedBy k t)) (sym (same-table (P .its-table))) (pair-same P);
       refused = λ P ne. kept-refused (same-table (P .its-table));
     })
@@ -109,14 +111,6 @@ module _ {w w′ : List ℕ} {u : Update} {v : Verdict} (a : TableUpdated w w′
   -- ---- accepted by the table
 
   module _ (none : k ≡ 0) where
-    -- no cache
-    pub no-cache : (x : List ℕ) (t : Tallies) (shape : Shape) → HeaderRead x shape → shape ≡ Broken → (r : Updated) → UpdatePromise w x w′ x t u r
-    no-cache x t shape read e r = record {
-      first = λ ne. absurd (first-done none ne);
-      sound-pair = λ P. absurd ((rw e at read) (P .its-cache .shaped));
-      refused = λ P. absurd ((rw e at read) (P .its-cache .shaped));
-    }
-
     short : u .prefix .length ≤ 32
     short = go (decLe (u .prefix .length) 32)
       where
@@ -177,12 +171,41 @@ module _ {w w′ : List ℕ} {u : Update} {v : Verdict} (a : TableUpdated w w′
           cache-kept = (passed .kept .limit-kept, passed .kept .past-kept);
         }
 
-      pub all-done : UpdatePromise w x w′ x′ t u answer
-      all-done = record {
+      pub all-done : Shaped x → UpdatePromise w x w′ x′ t u answer
+      all-done s = record {
         first = λ ne. absurd (first-done none ne);
+        unfit = λ z n. absurd (n s);
         sound-pair = updated-pair;
         refused = λ P ne. absurd (ne refl);
       }
+
+-- ---- no header that fits the cache
+
+unfit-first : (k : ℕ) → ¬ (k ≡ 0) → unfitNumber k ≡ k
+unfit-first zero n = absurd (n refl)
+unfit-first (suc k) n = refl
+
+module _ (u : Update) (t : Tallies) (r : Updated) (k : ℕ) (e : k ≡ firstRefusal u) where
+  pub first-given : ¬ (k ≡ 0) → r ≡ refusedBy k t → r ≡ refusedBy (unfitNumber (firstRefusal u)) t
+  first-given n is = is ∙ ap (λ m. refusedBy m t) (sym (unfit-first k n) ∙ ap unfitNumber e)
+
+  pub none-given : k ≡ 0 → r ≡ refusedBy 9 t → r ≡ refusedBy (unfitNumber (firstRefusal u)) t
+  none-given z is = is ∙ ap (λ m. refusedBy (unfitNumber m) t) (sym z ∙ e)
+
+module _ (u : Update) (t : Tallies) (r : Updated) (e : r ≡ refusedBy (unfitNumber (firstRefusal u)) t) where
+  nothing-changed : (w x : List ℕ) → Refused w x w x t r
+  nothing-changed w x = subst (Refused w x w x t) (sym e) (record { no-counts = (refl, refl); same-tallies = refl; same-table = refl; same-cache = refl })
+
+  pub no-cache : (w x : List ℕ) (shape : Shape) → HeaderRead x shape → shape ≡ Broken → UpdatePromise w x w x t u r
+  no-cache w x shape read broken = record {
+    first = λ ne. (ap (λ (q : Updated). q .number) e ∙ unfit-first (firstRefusal u) ne, nothing-changed w x);
+    unfit = λ z n. (ap (λ (q : Updated). q .number) e ∙ ap unfitNumber z, nothing-changed w x);
+    sound-pair = λ P. absurd ((rw broken at read) (P .its-cache .shaped));
+    refused = λ P. absurd ((rw broken at read) (P .its-cache .shaped));
+  }
+
+  pub numbered-broken : Numbered t u r
+  numbered-broken = subst (Numbered t u) (sym e) (record { later = λ z. inr (inr (inr (ap unfitNumber z))); no-counts = λ ne. (refl, refl, refl) })
 
 -- ---- on any pair
 
@@ -198,9 +221,6 @@ late-number Unsound n = inr (inr (inr refl))
 pub numbered-refused : {w w′ : List ℕ} {u : Update} {v : Verdict} (a : TableUpdated w w′ u v) {k : ℕ} → k ≡ verdictNumber v → {t : Tallies} {r : Updated} → r ≡ refusedBy k t → Numbered t u r
 numbered-refused {u = u} {v = v} a number {t} e =
     subst (Numbered t u) (sym e) (record { later = λ z. rw number (late-number v (a .later z)); no-counts = λ ne. (refl, refl, refl) })
-
-pub numbered-broken : {u : Update} {t : Tallies} {r : Updated} → r ≡ refusedBy 9 t → Numbered t u r
-numbered-broken {u} {t} e = subst (Numbered t u) (sym e) (record { later = λ z. inr (inr (inr refl)); no-counts = λ ne. (refl, refl, refl) })
 
 pub numbered-done : (t : Tallies) (u : Update) (r : Updated) → r .number ≡ 0 → Numbered t u r
 numbered-done t u r z = record { later = λ _. inl z; no-counts = λ ne. absurd (ne z) }

@@ -6,6 +6,7 @@ use Prim.Native.Nat.{ℕ, zero, suc}
 use Rattle.tallies.specs.declared.Tallies.{Tallies}
 use Rattle.model.specs.Model as model
 use Rattle.model.specs.Runs.{Outcome, step, update}
+use Rattle.slots.specs.Layout.{Shaped}
 use Rattle.table.specs.Tables.{ipv4Bits}
 use Rattle.updates.specs.Updates.{actionOf, firstRefusal}
 use Rattle.updates.specs.declared.Update.{Update}
@@ -42,9 +43,10 @@ pub record Refused (table cache table′ cache′ : List ℕ) (tallies : Tallies
   pub same-table : table′ ≡ table
   pub same-cache : cache′ ≡ cache
 
--- "1 and 2 are given first on any store"; from a sound pair every refusal is so
+-- "1 and 2 are given first on any store"; then 9 on a cache whose header does not fit it; from a sound pair every refusal is so
 pub record UpdatePromise (table cache table′ cache′ : List ℕ) (tallies : Tallies) (u : Update) (r : Updated) : Type 0 where
   pub first : ¬ (firstRefusal u ≡ 0) → (r .number ≡ firstRefusal u) × Refused table cache table′ cache′ tallies r
+  pub unfit : firstRefusal u ≡ 0 → ¬ (Shaped cache) → (r .number ≡ 9) × Refused table cache table′ cache′ tallies r
   pub sound-pair : SoundPair table cache → UpdatedPair table cache table′ cache′ tallies u r
   pub refused : SoundPair table cache → ¬ (r .number ≡ 0) → Refused table cache table′ cache′ tallies r
 
@@ -52,6 +54,11 @@ pub record UpdatePromise (table cache table′ cache′ : List ℕ) (tallies : T
 
 abbrev pub refusedBy : ℕ → Tallies → Updated
 refusedBy number tallies = record { number = number; removed = 0; changed = 0; tallies = tallies }
+
+-- where the cache's header does not fit it, by the number that is given first
+abbrev pub unfitNumber : ℕ → ℕ
+unfitNumber zero = 9
+unfitNumber (suc k) = suc k
 
 -- on any pair of stores: "which of 3, 4, 9 or 0 comes", and that no refusal counts
 pub record Numbered (tallies : Tallies) (u : Update) (r : Updated) : Type 0 where

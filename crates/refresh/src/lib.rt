@@ -10,7 +10,8 @@ use updates::Update;
 ghost use mathlib.Core.Path.{_≡_};
 ghost use Prim.Native.Nat.{_<_, _≤_};
 ghost use Rattle.slots.specs.Layout.{entriesHeld, Shaped};
-ghost use Rattle.refresh.specs.Promises.{UpdatePromise, refusedBy, Numbered};
+ghost use Rattle.updates.specs.Updates.{firstRefusal};
+ghost use Rattle.refresh.specs.Promises.{UpdatePromise, unfitNumber, refusedBy, Numbered};
 ghost use Rattle.refresh.specs.Passes.{Within, nextPass, Stepped, Drops, Keeps, Turns, Withdrawn, Alike, Passed};
 
 pub struct Updated {
@@ -22,18 +23,19 @@ pub struct Updated {
     pub tallies: Tallies,
 }
 
-// The table first. A refusal by the table is the answer, and nothing has changed; else the cache is brought up to it.
+// The table first, once the cache's header is seen to fit. A refusal by the table is the answer; else the cache is brought up
+// to it.
 pub fn update_pair(table: &mut [u32], cache: &mut [u32], t: Tallies, u: Update) -> Updated
     ensures { λ r. ⌜ UpdatePromise (now (table .entry)) (now (cache .entry)) (now (table .exit)) (now (cache .exit)) t u r ⌝ }
     ensures { λ r. ⌜ Numbered t u r ⌝ }
 {
+    let Shape::Fits(h) = slots::read_header(cache) else {
+        return unfit(u, t);
+    };
     let number = updates::verdict_number(updates::update_table(table, u));
     if number != 0 {
         return refused(number, t);
     }
-    let Shape::Fits(h) = slots::read_header(cache) else {
-        return refused(9, t);
-    };
     let pass = refresh(table, cache, u, h.entries);
     Updated {
         number: 0,
@@ -41,6 +43,17 @@ pub fn update_pair(table: &mut [u32], cache: &mut [u32], t: Tallies, u: Update) 
         changed: pass.changed,
         tallies: tallies::count_removed(t, pass.removed),
     }
+}
+
+// No header that fits the cache: 9, but 1 and 2 are given first.
+fn unfit(u: Update, t: Tallies) -> Updated
+    ensures { λ r. ⌜ r ≡ refusedBy (unfitNumber (firstRefusal u)) t ⌝ }
+{
+    let first = updates::first_refusal(u);
+    if first != 0 {
+        return refused(first, t);
+    }
+    refused(9, t)
 }
 
 // The number of a refusal, and nothing counted.

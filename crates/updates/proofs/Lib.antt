@@ -12,4 +12,5 @@ pub mod Stopping
 pub mod Withdrawals
 pub mod Entering
 pub mod Announcements
+pub mod FirstRefusals
 pub mod Updating

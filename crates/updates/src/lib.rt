@@ -1,7 +1,7 @@
 // Announcements and withdrawals in the table. An update record goes by value through the checks and into the store.
 use prefix::Address;
 ghost use mathlib.Core.Path.{_≡_};
-ghost use Rattle.updates.specs.Updates.{TableUpdated, verdictNumber};
+ghost use Rattle.updates.specs.Updates.{TableUpdated, verdictNumber, firstRefusal};
 
 mod announce;
 mod closing;
@@ -48,6 +48,29 @@ pub fn verdict_number(v: Verdict) -> u32
         Verdict::Full => 3,
         Verdict::NotHeld => 4,
         Verdict::Unsound => 9,
+    }
+}
+
+// The number of a refusal that no store is asked for: 1, then 2; else 0.
+pub fn first_refusal(u: Update) -> u32
+    ensures { λ r. ⌜ r ≡ firstRefusal u ⌝ }
+{
+    let p = u.prefix;
+    let action = u.action;
+    if 32 < p.length {
+        return 1;
+    }
+    match action {
+        Action::Announce(hop) => {
+            if hop == 0 {
+                return 2;
+            }
+            if 65535 < hop {
+                return 2;
+            }
+            0
+        }
+        Action::Withdraw => 0,
     }
 }
 
