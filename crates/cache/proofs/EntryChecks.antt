@@ -23,7 +23,8 @@ use Rattle.slots.specs.declared.Header.{Header}
 use Rattle.slots.specs.declared.Shape.{Shape}
 use Rattle.slots.specs.declared.Shape.the-variants.{Fits, Broken}
 use Rattle.slots.proofs.ReadLaws.{read-branch}
-use Rattle.cache.specs.Caches.{SoundEntries, EntriesChecked}
+use Rattle.entries.specs.Caches.{SoundEntries}
+use Rattle.cache.specs.Calls.{EntriesChecked}
 use Rattle.cache.specs.Checks.{Decides, CellFine, BranchFine, SlotFine}
 use Rattle.cache.proofs.NodeChecks.{entry-length, length-entry, length-branch}
 

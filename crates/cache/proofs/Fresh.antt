@@ -7,17 +7,14 @@ use lib.ListN.{length}
 use Rattle.sizes.specs.Sizes.{LegalLimit, cacheNeed}
 use Rattle.sizes.specs.declared.Setup.{Setup}
 use Rattle.sizes.proofs.SizeLaws.{setup-done}
-use Rattle.lru.specs.Sound as lru
 use Rattle.slots.specs.Layout.{entriesHeld, Room}
 use Rattle.slots.specs.Stores.{emptied}
 use Rattle.slots.specs.Headers.{SetUp}
 use Rattle.slots.proofs.KeptLaws.{plain-none}
 use Rattle.slots.proofs.Emptied.{emptied-limit, emptied-entries, emptied-past, emptied-shaped, emptied-sound}
-use Rattle.cache.specs.Caches.{entries, Holds, CacheSetUp}
-
-pub none-held : (w : List ℕ) → entriesHeld w ≡ 0 → entries w ≡ []
-unfolding entries lru.entries lru.order lru.stretch
-none-held w e = rw e
+use Rattle.entries.specs.Caches.{Holds}
+use Rattle.entries.proofs.EntryLaws.{none-held}
+use Rattle.cache.specs.Calls.{CacheSetUp}
 
 fresh : (w : List ℕ) (limit : ℕ) → LegalLimit limit → cacheNeed limit ≤ length w → Holds (emptied w limit) []
 fresh w limit legal enough =

@@ -1,15 +1,4 @@
-pub mod Changing
-pub mod Lows
-pub mod Ordering
 pub mod Fresh
-pub mod HopLaws
-pub mod EntryLaws
-pub mod WalkLaws
-pub mod FindLaws
-pub mod HangLaws
-pub mod InsertLaws
-pub mod Moving
-pub mod Closing
 pub mod NodeChecks
 pub mod SlotChecks
 pub mod RingChecks

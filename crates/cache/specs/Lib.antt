@@ -1,6 +1,2 @@
-pub mod Caches
-pub mod Changed
-pub mod Walks
-pub mod Hangs
-pub mod Removal
+pub mod Calls
 pub mod Checks

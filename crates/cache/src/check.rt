@@ -6,7 +6,7 @@ ghost use Rattle.prefix.specs.Bits.{one?};
 ghost use Rattle.lru.specs.Sound.{Live, InUse, Ring};
 ghost use Rattle.lru.specs.Checks.{Hangs, RootOk};
 ghost use Rattle.slots.specs.Layout.{slotWord, word, entriesHeld, cacheOf, Shaped, Room};
-ghost use Rattle.cache.specs.Caches.{EntriesChecked};
+ghost use Rattle.cache.specs.Calls.{EntriesChecked};
 ghost use Rattle.cache.specs.Checks.{Decides, Longer, GoesOn, CellFine, BranchFine, SlotFine};
 
 pub fn check_entries(store: &[u32]) -> bool

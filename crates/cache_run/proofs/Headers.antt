@@ -9,9 +9,9 @@ use Rattle.slots.specs.declared.Shape.{Shape}
 use Rattle.slots.specs.declared.Shape.the-variants.{Fits}
 use Rattle.slots.specs.declared.Header.{Header}
 use Rattle.prefix.specs.Bits.{Bits}
-use Rattle.cache.specs.Caches.{Slot, NearestTo}
-use Rattle.cache.specs.declared.find.Nearest.{Nearest}
-use Rattle.cache.specs.declared.find.Nearest.the-variants.{Hit}
+use Rattle.entries.specs.Caches.{Slot, NearestTo}
+use Rattle.entries.specs.declared.find.Nearest.{Nearest}
+use Rattle.entries.specs.declared.find.Nearest.the-variants.{Hit}
 
 module _ (w : List ℕ) (shape : Shape) (read : HeaderRead w shape) (h : Header) (is : shape ≡ Fits h) where
   pub fits-shaped : Shaped w

@@ -1,13 +1,13 @@
 // Thousands of hits, insertions and removals in bad orders on a cache of limit 40. After each the store is checked and its
 // whole order of use goes into a digest; at the end the order is printed. What it prints was worked out beside it by another
 // program, over plain lists.
-use cache::find::Nearest;
+use entries::find::Nearest;
 use prefix::Address;
 use slots::Shape;
 ghost use mathlib.Core.Path.{_≡_};
 ghost use Prim.Native.Nat.{_≤_};
 ghost use Rattle.slots.specs.Layout.{entriesHeld, Room, Shaped};
-ghost use Rattle.cache.specs.Caches.{Slot};
+ghost use Rattle.entries.specs.Caches.{Slot};
 
 const TURNS: u32 = 6_000;
 
@@ -56,7 +56,7 @@ fn insert(store: &mut [u32], x: Address, past: u32, seed: u64, turn: u32) {
     let entries = h.entries;
     let n = shorter(past, high(seed));
     let hop = hop_for(turn);
-    cache::insert::insert_entry(store, entries, x, n, hop);
+    insertion::insert_entry(store, entries, x, n, hop);
 }
 
 fn hop_for(turn: u32) -> u32
@@ -87,7 +87,7 @@ fn remove(store: &mut [u32], k: u32) {
         return;
     }
     let entries = h.entries;
-    cache::remove::remove_entry(store, entries, k);
+    removal::remove_entry(store, entries, k);
 }
 
 // Where there is no room, the least recently used entry goes: how many went.
@@ -98,7 +98,7 @@ fn make_room(store: &mut [u32]) -> u64 {
     if h.entries < h.limit {
         return 0;
     }
-    let k = cache::order::oldest(store);
+    let k = entries::order::oldest(store);
     remove(store, k);
     1
 }
@@ -118,11 +118,11 @@ fn use_or_remove(store: &mut [u32], entries: u32, k: u32, t: Totals) -> Totals
 {
     let mut u = t;
     if high(t.seed) % 10 < 4 {
-        cache::remove::remove_entry(store, entries, k);
+        removal::remove_entry(store, entries, k);
         u.removed = one_more(t.removed);
         return u;
     }
-    cache::order::to_front(store, entries, k);
+    entries::order::to_front(store, entries, k);
     u.hits = one_more(t.hits);
     u
 }
@@ -136,7 +136,7 @@ fn turn_once(store: &mut [u32], turn: u32, t: Totals) -> Totals {
         return u;
     };
     let entries = h.entries;
-    match cache::find::find_entry(store, entries, x) {
+    match entries::find::find_entry(store, entries, x) {
         Nearest::Hit(k) => use_or_remove(store, entries, k, u),
         Nearest::Miss(past) => store_new(store, x, past, turn, u),
     }

@@ -15,7 +15,7 @@ use Rattle.model.specs.Demands.{Distinct, Legal, Covered, SameRoutes}
 use Rattle.model.proofs.Match.{one-each, match-longest}
 use Rattle.model.proofs.SameRoutes.{flip, match-same, length-same}
 use Rattle.table.specs.Tables.{routes}
-use Rattle.cache.specs.Caches.{entries}
+use Rattle.entries.specs.Caches.{entries}
 use Rattle.pairs.specs.Pairs.{SoundPair, limitsOf}
 use Rattle.pairs.proofs.Pairing.{legal-pair}
 use Rattle.fib.proofs.Writing.{Words}

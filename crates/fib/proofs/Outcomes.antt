@@ -22,7 +22,8 @@ use Rattle.model.proofs.SameRoutes.{flip, refreshed-same, removed-same, changed
 use Rattle.nodes.specs.Layout as nodes
 use Rattle.slots.specs.Layout as slots
 use Rattle.table.specs.Tables.{routes, ipv4Bits, TableSetUp}
-use Rattle.cache.specs.Caches.{entries, CacheSetUp}
+use Rattle.entries.specs.Caches.{entries}
+use Rattle.cache.specs.Calls.{CacheSetUp}
 use Rattle.updates.specs.Updates.{actionOf, updateOf, prefixOfUpdate, firstRefusal}
 use Rattle.updates.specs.declared.Update.{Update}
 use Rattle.pairs.specs.Pairs.{SoundPair, limitsOf}

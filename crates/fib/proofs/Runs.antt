@@ -20,7 +20,8 @@ use Rattle.model.proofs.Legal.{legal-empty, legal-step}
 use Rattle.model.proofs.SameRoutes.{step-same}
 use Rattle.model.proofs.HeldSum.{held-of-run}
 use Rattle.table.specs.Tables.{routes, TableSetUp}
-use Rattle.cache.specs.Caches.{entries, CacheSetUp}
+use Rattle.entries.specs.Caches.{entries}
+use Rattle.cache.specs.Calls.{CacheSetUp}
 use Rattle.updates.specs.Updates.{updateOf}
 use Rattle.updates.specs.declared.Update.{Update}
 use Rattle.pairs.specs.Pairs.{SoundPair, limitsOf}

@@ -12,7 +12,8 @@ use Rattle.model.specs.Model.{Entry, Cache}
 use Rattle.model.specs.Demands.{Covered}
 use Rattle.model.proofs.Match.{match-longest}
 use Rattle.table.specs.Tables.{routes, SoundTable, TableSetUp}
-use Rattle.cache.specs.Caches.{entries, SoundEntries, CacheSetUp}
+use Rattle.entries.specs.Caches.{entries, SoundEntries}
+use Rattle.cache.specs.Calls.{CacheSetUp}
 use Rattle.pairs.specs.Pairs.{SoundPair, limitsOf}
 
 -- a cache that holds nothing is right by every table

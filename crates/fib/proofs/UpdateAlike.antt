@@ -6,7 +6,7 @@ use native.Mathlib.Omega.{arith}
 use Rattle.tallies.specs.declared.Tallies.{Tallies}
 use Rattle.model.specs.Demands.{SameRoutes}
 use Rattle.table.specs.Tables.{routes}
-use Rattle.cache.specs.Caches.{entries}
+use Rattle.entries.specs.Caches.{entries}
 use Rattle.updates.specs.declared.Update.{Update}
 use Rattle.refresh.specs.declared.Updated.{Updated}
 use Rattle.pairs.specs.Pairs.{SoundPair}

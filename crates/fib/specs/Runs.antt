@@ -14,7 +14,8 @@ use Rattle.model.specs.Demands.{SameRoutes, Alike, LegalState}
 use Rattle.nodes.specs.Layout as nodes
 use Rattle.slots.specs.Layout as slots
 use Rattle.table.specs.Tables.{routes, ipv4Bits, TableSetUp}
-use Rattle.cache.specs.Caches.{entries, CacheSetUp}
+use Rattle.entries.specs.Caches.{entries}
+use Rattle.cache.specs.Calls.{CacheSetUp}
 use Rattle.updates.specs.Updates.{actionOf}
 use Rattle.updates.specs.declared.Update.{Update}
 use Rattle.pairs.specs.Pairs.{SoundPair, limitsOf}

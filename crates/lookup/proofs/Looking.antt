@@ -38,10 +38,10 @@ use Rattle.table.specs.Tables.{routes, SoundTable}
 use Rattle.search.specs.Matches.{foundFor, Matched}
 use Rattle.search.specs.declared.Answer as search
 use Rattle.search.specs.declared.Found.the-variants.{Match, Nothing}
-use Rattle.cache.specs.Caches.{ipv4Bits, entries, Slot, entryIn, othersIn, Free, SoundEntries, NearestTo, Holds}
-use Rattle.cache.specs.declared.find.Nearest.{Nearest}
-use Rattle.cache.specs.declared.find.Nearest.the-variants.{Hit, Miss}
-use Rattle.cache.proofs.EntryLaws.{length-ipv4}
+use Rattle.entries.specs.Caches.{ipv4Bits, entries, Slot, entryIn, othersIn, Free, SoundEntries, NearestTo, Holds}
+use Rattle.entries.specs.declared.find.Nearest.{Nearest}
+use Rattle.entries.specs.declared.find.Nearest.the-variants.{Hit, Miss}
+use Rattle.entries.proofs.EntryLaws.{length-ipv4}
 use Rattle.pairs.specs.Pairs.{SoundPair}
 use Rattle.pairs.specs.States.{CacheKept}
 use Rattle.lookup.specs.Promises.{answerOf, ClearedIn, LookedUp}

@@ -17,7 +17,7 @@ use Rattle.model.specs.Model.{Entry}
 use Rattle.model.proofs.ListLaws.{take-in}
 use Rattle.slots.specs.Layout.{slotWord, word, limitOf, entriesHeld, cacheOf, Shaped}
 use Rattle.slots.specs.declared.Header.{Header}
-use Rattle.cache.specs.Caches.{ipv4Bits, entries, entryIn, othersIn, Free, SoundEntries, Kept, Holds, Removes, Oldest}
+use Rattle.entries.specs.Caches.{ipv4Bits, entries, entryIn, othersIn, Free, SoundEntries, Kept, Holds, Removes, Oldest}
 use Rattle.lookup.specs.Lookups.{Used, FirstBits, Stored, Cleared, MadeRoom}
 use Rattle.lookup.specs.declared.Answer.the-variants.{Hit, Miss}
 use Rattle.lookup.specs.declared.Looked.{Looked}

@@ -12,7 +12,7 @@ use Rattle.model.specs.Model as model
 use Rattle.model.specs.Runs.{Outcome, step, look}
 use Rattle.model.specs.Demands.{NoneCached}
 use Rattle.slots.specs.Layout.{limitOf, entriesHeld, cacheOf, Shaped}
-use Rattle.cache.specs.Caches.{entries, entryIn, othersIn, SoundEntries, Holds}
+use Rattle.entries.specs.Caches.{entries, entryIn, othersIn, SoundEntries, Holds}
 use Rattle.pairs.specs.Pairs.{SoundPair, limitsOf}
 use Rattle.pairs.specs.States.{stateOf, Reached, CacheKept}
 use Rattle.lookup.specs.Promises.{answerOf, ClearedIn}

@@ -1,6 +1,6 @@
 // The public lookup in a pair of stores that the caller lends: a hit in the cache, a miss that stores an entry, or a drop. It
 // takes every address and every content of the stores, and ends; from a sound pair it does what the model says and leaves it sound.
-use cache::find::Nearest;
+use entries::find::Nearest;
 use prefix::Address;
 use search::Found;
 use slots::Header;
@@ -10,7 +10,7 @@ ghost use mathlib.Core.Path.{_≡_};
 ghost use Prim.Native.Nat.{max, _≤_};
 ghost use lib.ListN.{take};
 ghost use Rattle.slots.specs.Layout.{limitOf, entriesHeld, Shaped};
-ghost use Rattle.cache.specs.Caches.{ipv4Bits, Slot, SoundEntries, Free};
+ghost use Rattle.entries.specs.Caches.{ipv4Bits, Slot, SoundEntries, Free};
 ghost use Rattle.pairs.specs.Pairs.{SoundPair};
 ghost use Rattle.lookup.specs.Promises.{LookedUp};
 ghost use Rattle.lookup.specs.Lookups.{Missed, LookedAt, Used, FirstBits, Stored, MadeRoom};
@@ -39,7 +39,7 @@ pub fn look_up(table: &[u32], cache: &mut [u32], t: Tallies, address: u32) -> Lo
     let Shape::Fits(h) = slots::read_header(cache) else {
         return unsound(t);
     };
-    match cache::find::find_entry(cache, h.entries, x) {
+    match entries::find::find_entry(cache, h.entries, x) {
         Nearest::Hit(k) => hit(cache, h.entries, k, t),
         Nearest::Miss(past) => miss(table, cache, h, x, past, t),
     }
@@ -60,7 +60,7 @@ fn hit(cache: &mut [u32], entries: u32, k: u32, t: Tallies) -> Looked
     ensures { λ r. ⌜ Used (now (cache .entry)) (now (cache .exit)) k t r ⌝ }
 {
     let hop = slots::hop_of(cache, k);
-    cache::order::to_front(cache, entries, k);
+    entries::order::to_front(cache, entries, k);
     Looked {
         answer: Answer::Hit(hop),
         tallies: tallies::count_hit(t),
@@ -115,7 +115,7 @@ fn store_entry(
     let Room::For(held) = make_room(cache, h) else {
         return unsound(t);
     };
-    cache::insert::insert_entry(cache, held, x, n, hop);
+    insertion::insert_entry(cache, held, x, n, hop);
     Looked {
         answer: Answer::Miss(hop, stored_address(x, n), n, examined),
         tallies: tallies::count_miss(t, h.entries - held),
@@ -154,13 +154,13 @@ fn give_way(cache: &mut [u32], entries: u32) -> Room
     requires { ⌜ entries ≡ limitOf (now cache) ⌝ }
     ensures { λ r. ⌜ MadeRoom (now (cache .entry)) (now (cache .exit)) r ⌝ }
 {
-    let k = cache::order::oldest(cache);
+    let k = entries::order::oldest(cache);
     if k == 0 {
         return Room::Nowhere;
     }
     if entries < k {
         return Room::Nowhere;
     }
-    cache::remove::remove_entry(cache, entries, k);
+    removal::remove_entry(cache, entries, k);
     Room::For(entries - 1)
 }

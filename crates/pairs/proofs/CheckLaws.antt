@@ -33,7 +33,8 @@ use Rattle.search.specs.Standings.{Judged, JudgedAt}
 use Rattle.search.specs.declared.Found.{Found}
 use Rattle.search.specs.declared.Found.the-variants.{Match, Nothing}
 use Rattle.search.specs.declared.Standing.{Standing}
-use Rattle.cache.specs.Caches.{entries, entryIn, SoundEntries, EntriesChecked}
+use Rattle.entries.specs.Caches.{entries, entryIn, SoundEntries}
+use Rattle.cache.specs.Calls.{EntriesChecked}
 use Rattle.cache.specs.Checks.{Decides}
 use Rattle.cache.proofs.NodeChecks.{refuse}
 use Rattle.pairs.specs.Pairs.{SoundPair, PairChecked}

@@ -15,8 +15,8 @@ use Rattle.lru.proofs.Holding.{entries-length, entry-slot, entries-apart}
 use Rattle.nodes.specs.Layout as nodes
 use Rattle.slots.specs.Layout as slots
 use Rattle.table.specs.Tables.{routes, SoundTable}
-use Rattle.cache.specs.Caches.{entries, SoundEntries}
-use Rattle.cache.proofs.EntryLaws.{entry-short}
+use Rattle.entries.specs.Caches.{entries, SoundEntries}
+use Rattle.entries.proofs.EntryLaws.{entry-short}
 use Rattle.pairs.specs.Pairs.{SoundPair, limitsOf}
 
 -- ---- the table

@@ -10,7 +10,7 @@ use Rattle.model.specs.Demands.{Covered}
 use Rattle.nodes.specs.Layout as nodes
 use Rattle.slots.specs.Layout as slots
 use Rattle.table.specs.Tables.{routes, SoundTable}
-use Rattle.cache.specs.Caches.{entries, SoundEntries}
+use Rattle.entries.specs.Caches.{entries, SoundEntries}
 
 -- entries "that don't overlap, have a covering route, hold no route strictly inside and carry their match's hop": that they do not
 -- overlap follows from the cache's own structure

@@ -10,7 +10,7 @@ use Rattle.model.specs.Demands.{SameRoutes}
 use Rattle.nodes.specs.Layout as nodes
 use Rattle.slots.specs.Layout as slots
 use Rattle.table.specs.Tables.{routes}
-use Rattle.cache.specs.Caches.{entries}
+use Rattle.entries.specs.Caches.{entries}
 
 -- what a pair of stores and a record of tallies hold
 abbrev pub stateOf : List ℕ → List ℕ → Tallies → State

@@ -6,7 +6,7 @@ ghost use Prim.Native.Nat.{_≤_, _<_};
 ghost use Rattle.model.specs.Demands.{Covered};
 ghost use Rattle.slots.specs.Layout.{entriesHeld};
 ghost use Rattle.table.specs.Tables.{routes, SoundTable};
-ghost use Rattle.cache.specs.Caches.{entryIn, SoundEntries};
+ghost use Rattle.entries.specs.Caches.{entryIn, SoundEntries};
 ghost use Rattle.cache.specs.Checks.{Decides};
 ghost use Rattle.pairs.specs.Pairs.{PairChecked};
 

@@ -11,7 +11,7 @@ use Rattle.model.specs.Model.{Entry}
 use Rattle.lru.proofs.Holding.{entry-slot}
 use Rattle.slots.specs.Layout.{entriesHeld, Shaped}
 use Rattle.table.specs.Tables.{routes}
-use Rattle.cache.specs.Caches.{entries, SoundEntries, Slot, entryIn, Kept}
+use Rattle.entries.specs.Caches.{entries, SoundEntries, Slot, entryIn, Kept}
 use Rattle.updates.specs.Updates.{updateOf}
 use Rattle.updates.specs.declared.Update.{Update}
 use Rattle.refresh.specs.declared.Pass.{Pass}

@@ -28,7 +28,7 @@ use Rattle.search.specs.Matches.{foundFor}
 use Rattle.search.specs.Standings.{Judged, JudgedAt}
 use Rattle.search.specs.declared.Found.the-variants.{Match, Nothing}
 use Rattle.search.specs.declared.Standing.{Standing}
-use Rattle.cache.specs.Caches.{SoundEntries, entryIn}
+use Rattle.entries.specs.Caches.{SoundEntries, entryIn}
 use Rattle.updates.specs.Updates.{actionOf, prefixOfUpdate, updateOf}
 use Rattle.updates.specs.declared.Action.the-variants.{Announce, Withdraw}
 use Rattle.updates.specs.declared.Prefix.{Prefix}

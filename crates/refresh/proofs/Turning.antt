@@ -15,7 +15,7 @@ use Rattle.lru.specs.Sound as lru
 use Rattle.lru.proofs.Orders.{ring-order, order-all, order-distinct}
 use Rattle.lru.proofs.Holding.{keep-others}
 use Rattle.slots.specs.Layout.{slotWord, word, entriesHeld, cacheOf, Shaped}
-use Rattle.cache.specs.Caches.{entries, SoundEntries, Slot, entryIn, withHop, rehopped, Kept, Removes, Rehops}
+use Rattle.entries.specs.Caches.{entries, SoundEntries, Slot, entryIn, withHop, rehopped, Kept, Removes, Rehops}
 use Rattle.refresh.specs.declared.Pass.{Pass}
 use Rattle.refresh.specs.Passes.{Within, Stepped, Right, RightAbove, Turned, Drops, Keeps, nextPass}
 use Rattle.pairs.proofs.Pairing.{held-entries}

@@ -28,7 +28,7 @@ use Rattle.slots.specs.Headers.{HeaderRead}
 use Rattle.slots.specs.declared.Shape.{Shape}
 use Rattle.slots.specs.declared.Shape.the-variants.{Broken}
 use Rattle.table.specs.Tables.{ipv4Bits, routes, SoundTable}
-use Rattle.cache.specs.Caches.{entries}
+use Rattle.entries.specs.Caches.{entries}
 use Rattle.updates.specs.Updates as updates
 use Rattle.updates.specs.Updates.{actionOf, prefixOfUpdate, updateOf, verdictNumber, firstRefusal, TableAfter, TableUpdated}
 use Rattle.updates.specs.declared.Update.{Update}

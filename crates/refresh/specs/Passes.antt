@@ -11,7 +11,7 @@ use Rattle.model.specs.Routes as model
 use Rattle.model.specs.Model.{Entry, withdraws, leaves, fresh, refreshed, removed, changed}
 use Rattle.slots.specs.Layout.{entriesHeld, Shaped}
 use Rattle.table.specs.Tables.{ipv4Bits, routes, SoundTable}
-use Rattle.cache.specs.Caches.{entries, SoundEntries, Slot, entryIn, Kept}
+use Rattle.entries.specs.Caches.{entries, SoundEntries, Slot, entryIn, Kept}
 use Rattle.updates.specs.Updates.{actionOf, prefixOfUpdate, updateOf}
 use Rattle.updates.specs.declared.Prefix.{Prefix}
 use Rattle.updates.specs.declared.Update.{Update}

@@ -147,7 +147,7 @@ fn drop_one(cache: &mut [u32], p: Pass) -> Pass
     ensures { λ r. ⌜ Stepped (now (cache .entry)) (now (cache .exit)) p r ⌝ }
     ensures { λ r. ⌜ Drops (now (cache .entry)) (now (cache .exit)) p r ⌝ }
 {
-    cache::remove::remove_entry(cache, p.entries, p.at);
+    removal::remove_entry(cache, p.entries, p.at);
     let left = p.entries - 1;
     if left < p.at {
         return Pass {
@@ -178,7 +178,7 @@ fn keep_one(cache: &mut [u32], p: Pass, hop: u32) -> Pass
     if 65535 < hop {
         return next_slot(p, 0);
     }
-    cache::give_hop(cache, p.at, hop);
+    entries::give_hop(cache, p.at, hop);
     next_slot(p, 1)
 }
 

@@ -1,0 +1,53 @@
+-- What the calls read of a slot's entry, and of a store without entries. Assumes nothing.
+use mathlib.Core.Path.{_≡_, sym, ap, _∙_}
+use mathlib.Core.List.{List, []}
+use Prim.Native.Nat.{ℕ, _%_, _≤_}
+use native.Mathlib.Omega.{arith}
+use lib.ListN.{length, take, length-take}
+use lib.Seq.{take-take}
+use Rattle.prefix.specs.Bits.{bits}
+use Rattle.prefix.specs.Prefix.{common, prefixOf}
+use Rattle.prefix.specs.Addresses.{addressBits}
+use Rattle.prefix.specs.declared.Address.{Address}
+use Rattle.prefix.proofs.BitLaws.{length-bits}
+use Rattle.prefix.proofs.Common.{common-sym, common-le}
+use Rattle.prefix.proofs.Order.{take-len}
+use Rattle.prefix.proofs.AddressLaws.{length-address, common-32}
+use Rattle.lru.specs.Sound as lru
+use Rattle.lru.specs.Results.{Short}
+use Rattle.slots.specs.Layout.{slotWord, word, entriesHeld, cacheOf}
+use Rattle.entries.specs.Caches.{ipv4Bits, entries}
+use Rattle.entries.specs.Walks.{CommonWith}
+
+pub none-held : (w : List ℕ) → entriesHeld w ≡ 0 → entries w ≡ []
+unfolding entries lru.entries lru.order lru.stretch
+none-held w e = rw e
+
+pub length-ipv4 : (x : Address) → length (ipv4Bits x) ≡ 32
+length-ipv4 x = take-len 32 (addressBits x) (omega (arith, length-address x))
+
+-- no entry is longer than an address
+pub entry-short : (w : List ℕ) (i : ℕ) → length (cacheOf w .entry i) ≤ 32
+unfolding cacheOf
+entry-short w i = simp (length-take, length-bits) (omega arith)
+
+pub all-short : (w : List ℕ) (x : Address) → Short (entriesHeld w) (cacheOf w) (ipv4Bits x)
+all-short w x i l = omega (arith, entry-short w i, length-ipv4 x)
+
+pub entry-size : (w : List ℕ) (i n : ℕ) → n ≡ word w (slotWord i 1) % 64 → n ≤ 32 → length (cacheOf w .entry i) ≡ n
+unfolding cacheOf
+entry-size w i n en short = rw (← en) (take-len n (bits 32 (word w (slotWord i 0))) (simp length-bits short))
+
+pub common-read : (w : List ℕ) (i n r : ℕ) (x a : Address) → n ≡ word w (slotWord i 1) % 64 → take 32 (addressBits a) ≡ bits 32 (word w (slotWord i 0))
+    → r ≡ common (addressBits x) (take n (addressBits a)) → CommonWith w i (ipv4Bits x) r
+unfolding cacheOf
+common-read w i n r x a en ea er = record {
+  small = omega (arith, turned, common-le (take n (addressBits a)) (addressBits x), length-take n (addressBits a));
+  is-common = λ h. let short : n ≤ 32 = omega arith in
+      rw (← en)
+      (turned ∙ sym (common-32 n a x short)
+      ∙ ap (λ p. common p (ipv4Bits x)) (sym (take-take n 32 (addressBits a) short) ∙ ap (take n) ea) ∙ common-sym (prefixOf 32 (word w (slotWord i 0)) n) (ipv4Bits x));
+}
+  where
+    turned : r ≡ common (take n (addressBits a)) (addressBits x)
+    turned = er ∙ common-sym (addressBits x) (take n (addressBits a))

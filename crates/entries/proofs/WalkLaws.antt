@@ -1,0 +1,102 @@
+-- One turn of the walk, and the walk. Assumes nothing.
+use mathlib.Core.Path.{_≡_, sym, ap, _∙_}
+use mathlib.Core.Bool.{true, false}
+use mathlib.Core.List.{List}
+use Prim.Native.Nat.{ℕ, suc, _+_, _-_, _*_, _/_, _%_, _≤_, _<_}
+use native.Mathlib.Omega.{arith}
+use lib.ListN.{getD}
+use lib.Seq.{getD-take}
+use Rattle.prefix.specs.Bits.{Bits, digit}
+use Rattle.prefix.specs.Prefix.{common}
+use Rattle.prefix.specs.Addresses.{addressBits}
+use Rattle.prefix.specs.declared.Address.{Address}
+use Rattle.lru.specs.Slots.{cellOf}
+use Rattle.lru.specs.Sound.{Live}
+use Rattle.lru.specs.Changes.{passes, towards, walk}
+use Rattle.lru.proofs.Nodes.{digit-small}
+use Rattle.lru.proofs.Shape.{branch-short}
+use Rattle.lru.proofs.Walking.{find-start, passes-branch, stops-entry, stops-miss, walk-on, walk-end, on-start, on-step}
+use Rattle.slots.specs.Layout.{slotWord, cellWord, word, entriesHeld, cacheOf}
+use Rattle.slots.proofs.ReadLaws.{read-child, read-branch}
+use Rattle.entries.specs.Caches.{ipv4Bits, SoundEntries}
+use Rattle.entries.specs.Walks.{CommonWith, Going, Turned, Walked}
+use Rattle.entries.specs.declared.find.Turn.{Turn}
+use Rattle.entries.specs.declared.find.Turn.the-variants.{On, End}
+use Rattle.entries.proofs.EntryLaws.{length-ipv4, entry-short, all-short}
+
+-- ---- the cell on a side
+
+module _ (x : Bits) (m i r : ℕ) (e : r ≡ digit (getD x m false)) where
+  pub bit-small : r < 2
+  bit-small = omega (arith, digit-small (getD x m false))
+
+  pub side-is : (2 * i + r ≡ cellOf i (getD x m false)) × ((2 * i + r) / 2 ≡ i)
+  side-is = (ap (λ k. 2 * i + k) e, omega (arith, bit-small))
+
+-- ---- one turn
+
+module _ (w : List ℕ) (x : Address) (at : ℕ) where
+  pub ends-entry : at % 2 ≡ 0 → Turned w (ipv4Bits x) at End
+  unfolding Turned
+  ends-entry e S l = stops-entry (cacheOf w) (ipv4Bits x) at e
+
+  module _ (entries : ℕ) (held : entries ≡ entriesHeld w) where
+    pub ends-outside : entries < at / 2 → Turned w (ipv4Bits x) at End
+    unfolding Turned
+    ends-outside h S l = absurd (omega arith)
+
+    -- a branch of m bits, with an entry that has s bits in common with x
+    module _ (inside : at / 2 ≤ entries) (m s : ℕ) (em : m ≡ word w (slotWord (at / 2) 7) % 64) (es : CommonWith w (at / 2) (ipv4Bits x) s) where
+      s-is : SoundEntries w → Live (entriesHeld w) at → s ≡ common (ipv4Bits x) (cacheOf w .entry (at / 2))
+      s-is S l = es .is-common (S .plain .short (at / 2) (omega arith) (omega arith))
+
+      m-is : m ≡ cacheOf w .branchLength (at / 2)
+      m-is = em ∙ read-branch w (at / 2)
+
+      pub ends-miss : s < m → Turned w (ipv4Bits x) at End
+      unfolding Turned
+      ends-miss h S l = stops-miss (cacheOf w) (ipv4Bits x) at (omega (arith, s-is S l, m-is))
+
+      pub goes-on : ¬ (at % 2 ≡ 0) → m ≤ s → (q r : ℕ) → (q ≡ cellOf (at / 2) (getD (addressBits x) m false)) × (q / 2 ≡ at / 2) → r ≡ word w (cellWord q) → Turned w (ipv4Bits x) at (On r)
+      unfolding Turned towards
+      goes-on odd h q r eq er S l =
+          let fits = branch-short (S .slots) (at / 2) (omega arith) (omega arith) in
+          let bit : getD (ipv4Bits x) m false ≡ getD (addressBits x) m false = getD-take 32 (addressBits x) m false (omega (arith, fits, m-is, entry-short w (at / 2))) in (
+            passes-branch (cacheOf w) (ipv4Bits x) at odd (omega (arith, s-is S l, m-is)),
+            er ∙ read-child w q ∙ ap (cacheOf w .child) (eq .0 ∙ ap (cellOf (at / 2)) (sym bit ∙ ap (λ k. getD (ipv4Bits x) k false) m-is)),
+          )
+
+-- ---- the walk
+
+pub start : (w : List ℕ) (x : Address) (r : ℕ) → r ≡ word w (cellWord 0) → Going w (ipv4Bits x) r 33
+start w x r e =
+    let root = e ∙ read-child w 0 in
+    record {
+      here = λ S h. rw root (on-start (S .slots) (ipv4Bits x) h);
+      rest = λ S h. rw root (sym (find-start (cacheOf w) (ipv4Bits x) ∙ ap (λ k. walk (cacheOf w) (ipv4Bits x) (suc k) (cacheOf w .child 0)) (length-ipv4 x)));
+    }
+
+module _ (w : List ℕ) (x : Address) (at left : ℕ) (g : Going w (ipv4Bits x) at left) where
+  pub walk-out : left ≤ 0 → Walked w (ipv4Bits x) at
+  unfolding walk
+  walk-out z = record { found = λ S h. let e : left ≡ 0 = omega arith in rw e at (g .rest S h) }
+
+  module _ (t : Turn) (turned : Turned w (ipv4Bits x) at t) where
+    pub walk-over : t ≡ End → Walked w (ipv4Bits x) at
+    unfolding Turned
+    walk-over e = record {
+      found = λ S h. sym (walk-end (cacheOf w) (ipv4Bits x) left at ((rw e at turned) S (g .here S h .live))) ∙ g .rest S h;
+    }
+
+    pub walk-further : (next : ℕ) → t ≡ On next → 0 < left → Going w (ipv4Bits x) next (left - 1)
+    unfolding Turned
+    walk-further next e pos = record {
+      here = λ S h. let p = passed S h in rw (p .1) (on-step (S .slots) (ipv4Bits x) (all-short w x) at (g .here S h) (p .0) .0);
+      rest = λ S h.
+          let p = passed S h in
+          let one : left ≡ suc (left - 1) = omega arith in
+          rw (p .1) (sym (walk-on (cacheOf w) (ipv4Bits x) (left - 1) at (p .0)) ∙ ap (λ k. walk (cacheOf w) (ipv4Bits x) k at) (sym one) ∙ g .rest S h);
+    }
+      where
+        passed : SoundEntries w → 0 < entriesHeld w → (passes (cacheOf w) (ipv4Bits x) at ≡ true) × (next ≡ cacheOf w .child (towards (cacheOf w) (ipv4Bits x) at))
+        passed S h = (rw e at turned) S (g .here S h .live)

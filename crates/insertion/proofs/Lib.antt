@@ -1,0 +1,2 @@
+pub mod HangLaws
+pub mod InsertLaws

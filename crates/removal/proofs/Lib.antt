@@ -1,0 +1,3 @@
+pub mod LowMoves
+pub mod Moving
+pub mod Closing
