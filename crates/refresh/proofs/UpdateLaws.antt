@@ -29,11 +29,12 @@ use Rattle.slots.specs.declared.Shape.{Shape}
 use Rattle.slots.specs.declared.Shape.the-variants.{Broken}
 use Rattle.table.specs.Tables.{ipv4Bits, routes, SoundTable}
 use Rattle.entries.specs.Caches.{entries}
-use Rattle.updates.specs.Updates as updates
-use Rattle.updates.specs.Updates.{actionOf, prefixOfUpdate, updateOf, verdictNumber, firstRefusal, TableAfter, TableUpdated}
+use Rattle.verdicts.specs.Verdicts as verdicts
+use Rattle.verdicts.specs.Verdicts.{verdictNumber, TableAfter}
+use Rattle.verdicts.specs.declared.Verdict.{Verdict}
+use Rattle.verdicts.specs.declared.Verdict.the-variants.{Done, TooLong, BadHop, Full, NotHeld, Unsound}
+use Rattle.updates.specs.Updates.{actionOf, prefixOfUpdate, updateOf, firstRefusal, TableUpdated}
 use Rattle.updates.specs.declared.Update.{Update}
-use Rattle.updates.specs.declared.Verdict.{Verdict}
-use Rattle.updates.specs.declared.Verdict.the-variants.{Done, TooLong, BadHop, Full, NotHeld, Unsound}
 use Rattle.refresh.specs.declared.Pass.{Pass}
 use Rattle.refresh.specs.declared.Updated.{Updated}
 use Rattle.pairs.specs.Pairs.{SoundPair, limitsOf}
@@ -45,7 +46,7 @@ use Rattle.pairs.proofs.Pairing.{legal-pair}
 -- ---- what the model says
 
 -- no refusal depends on the entries
-refusal-entries : (w x : List ℕ) (t : model.Table) (n : ℕ) (p : Bits) (a : model.Action) → refusal (updates.limitsOf w) t n p a ≡ refusal (limitsOf w x) t n p a
+refusal-entries : (w x : List ℕ) (t : model.Table) (n : ℕ) (p : Bits) (a : model.Action) → refusal (verdicts.limitsOf w) t n p a ≡ refusal (limitsOf w x) t n p a
 unfolding refusal
 refusal-entries w x t n p (model.announce hop) = refl
 refusal-entries w x t n p model.withdraw = refl

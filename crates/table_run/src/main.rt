@@ -6,7 +6,7 @@ use search::Found;
 use updates::Action;
 use updates::Prefix;
 use updates::Update;
-use updates::Verdict;
+use verdicts::Verdict;
 
 const TURNS: u32 = 12_000;
 

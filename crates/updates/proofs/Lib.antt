@@ -1,16 +1,2 @@
-pub mod Guards
-pub mod Making
-pub mod Linking
-pub mod Kept
-pub mod Leaving
-pub mod After
-pub mod Verdicts
-pub mod Removing
-pub mod Parting
-pub mod Standing
-pub mod Stopping
-pub mod Withdrawals
-pub mod Entering
-pub mod Announcements
 pub mod FirstRefusals
 pub mod Updating

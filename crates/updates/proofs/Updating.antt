@@ -10,13 +10,15 @@ use Rattle.prefix.proofs.Booleans.{or-right}
 use Rattle.model.specs.Routes as model
 use Rattle.model.specs.Model.{refusal, highestHop}
 use Rattle.table.specs.Tables.{routes}
-use Rattle.updates.specs.Updates.{actionOf, prefixOfUpdate, firstRefusal, limitsOf, TableUpdated}
-use Rattle.updates.specs.Steps.{announcement, withdrawal, Answered}
+use Rattle.updates.specs.Updates.{actionOf, prefixOfUpdate, firstRefusal, TableUpdated}
+use Rattle.verdicts.specs.Verdicts.{limitsOf, Answered}
+use Rattle.announce.specs.Steps.{announcement}
+use Rattle.withdraw.specs.Steps.{withdrawal}
 use Rattle.updates.specs.declared.Action.{Action}
 use Rattle.updates.specs.declared.Action.the-variants.{Announce, Withdraw}
 use Rattle.updates.specs.declared.Update.{Update}
-use Rattle.updates.specs.declared.Verdict.{Verdict}
-use Rattle.updates.specs.declared.Verdict.the-variants.{TooLong, BadHop}
+use Rattle.verdicts.specs.declared.Verdict.{Verdict}
+use Rattle.verdicts.specs.declared.Verdict.the-variants.{TooLong, BadHop}
 
 module _ (w : List ℕ) (u : Update) where
   -- ---- the refusals that are given first

@@ -1,3 +1,1 @@
 pub mod Updates
-pub mod Writes
-pub mod Steps

@@ -3,20 +3,18 @@ use mathlib.Core.Path.{_≡_}
 use mathlib.Core.Bool.{cond, _||_}
 use mathlib.Core.List.{List}
 use Prim.Native.Nat.{ℕ}
-use lib.ListN.{take, drop}
+use lib.ListN.{take}
 use lib.Dec.{ltb, eqb}
 use Rattle.prefix.specs.Bits.{Bits}
-use Rattle.sizes.specs.Sizes.{tableNeed}
 use Rattle.model.specs.Routes as model
-use Rattle.model.specs.Model.{Limits, refusal, tooLong, badHop, highestHop}
-use Rattle.model.specs.Demands.{SameRoutes}
-use Rattle.nodes.specs.Layout.{limitOf}
+use Rattle.model.specs.Model.{refusal, tooLong, badHop, highestHop}
 use Rattle.table.specs.Tables.{ipv4Bits, routes, SoundTable}
 use Rattle.updates.specs.declared.Action.{Action}
 use Rattle.updates.specs.declared.Action.the-variants.{Announce, Withdraw}
 use Rattle.updates.specs.declared.Update.{Update}
-use Rattle.updates.specs.declared.Verdict.{Verdict}
-use Rattle.updates.specs.declared.Verdict.the-variants.{Done, TooLong, BadHop, Full, NotHeld, Unsound}
+use Rattle.verdicts.specs.Verdicts.{verdictNumber, limitsOf, TableAfter}
+use Rattle.verdicts.specs.declared.Verdict.{Verdict}
+use Rattle.verdicts.specs.declared.Verdict.the-variants.{Done, TooLong, BadHop}
 
 -- ---- an update record as the model's
 
@@ -31,15 +29,7 @@ prefixOfUpdate u = take (u .prefix .length) (ipv4Bits (u .prefix .address))
 abbrev pub updateOf : Update → model.Update
 updateOf u = record { prefix = prefixOfUpdate u; action = actionOf (u .action) }
 
--- ---- the numbers
-
-abbrev pub verdictNumber : Verdict → ℕ
-verdictNumber Done = 0
-verdictNumber TooLong = 1
-verdictNumber BadHop = 2
-verdictNumber Full = 3
-verdictNumber NotHeld = 4
-verdictNumber Unsound = 9
+-- ---- the refusals that are given first
 
 -- "1 and 2 are given first on any store": the number of such a refusal, or 0
 abbrev pub hopRefusal : Action → ℕ
@@ -49,18 +39,7 @@ hopRefusal Withdraw = 0
 abbrev pub firstRefusal : Update → ℕ
 firstRefusal u = cond (ltb 32 (u .prefix .length)) tooLong (hopRefusal (u .action))
 
--- a table store is of IPv4, and knows no entries
-abbrev pub limitsOf : List ℕ → Limits
-limitsOf w = record { width = 32; routes = limitOf w; entries = 0 }
-
 -- ---- the promise
-
--- a sound store after an accepted update: the routes are the model's, the limit and the words past the need are as before
-pub record TableAfter (w w′ : List ℕ) (u : model.Update) : Type 0 where
-  pub sound : SoundTable w′
-  pub are-routes : SameRoutes (routes w′) (model.updated (routes w) u)
-  pub limit-kept : limitOf w′ ≡ limitOf w
-  pub past-kept : drop (tableNeed (limitOf w)) w′ ≡ drop (tableNeed (limitOf w)) w
 
 pub record TableUpdated (w w′ : List ℕ) (u : Update) (r : Verdict) : Type 0 where
   -- on any store

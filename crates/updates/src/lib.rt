@@ -1,12 +1,9 @@
 // Announcements and withdrawals in the table. An update record goes by value through the checks and into the store.
 use prefix::Address;
+use verdicts::Verdict;
 ghost use mathlib.Core.Path.{_≡_};
-ghost use Rattle.updates.specs.Updates.{TableUpdated, verdictNumber, firstRefusal};
-
-mod announce;
-mod closing;
-mod growing;
-mod withdraw;
+ghost use Rattle.updates.specs.Updates.{TableUpdated, firstRefusal};
+ghost use Rattle.verdicts.specs.Verdicts.{verdictNumber};
 
 pub struct Prefix {
     pub address: Address,
@@ -21,20 +18,6 @@ pub enum Action {
 pub struct Update {
     pub prefix: Prefix,
     pub action: Action,
-}
-
-pub enum Verdict {
-    Done,
-    // a length is above 32
-    TooLong,
-    // a hop is 0 or above 65,535
-    BadHop,
-    // a new prefix, and the table holds its limit of routes
-    Full,
-    // the route to withdraw is not held
-    NotHeld,
-    // only on a store that is not sound
-    Unsound,
 }
 
 // The number of a verdict: 0, 1, 2, 3, 4 or 9.

@@ -1,0 +1,4 @@
+pub mod Guards
+pub mod Leaving
+pub mod Removing
+pub mod Withdrawals
