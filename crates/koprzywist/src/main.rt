@@ -1,12 +1,12 @@
 // The script program: reads calls from standard input, a line each, and prints their answers. The stores are its own: a
 // table of 512 routes and a cache of 3 entries. Input is read and output is written in blocks, so that memory is constant
 // whatever the length of the script.
+use answers::Said;
 use libc::STDIN_FILENO;
 use libc::STDOUT_FILENO;
 use lookup::Answer;
 use script::Line;
 use script::Next;
-use script::Said;
 use tallies::Tallies;
 use updates::Action;
 use updates::Prefix;
@@ -130,7 +130,7 @@ fn say(out: &mut [u8], r: Progress, said: Said) -> Progress {
     if is_full(out.len(), r.waiting) {
         p = flush(out, r);
     }
-    let waiting = script::write_line(out, p.waiting, said);
+    let waiting = answers::write_line(out, p.waiting, said);
     p.waiting = waiting;
     p
 }

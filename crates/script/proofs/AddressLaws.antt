@@ -14,10 +14,10 @@ use Rattle.script.specs.Lines.{digits, valueFrom, number, both, numbers,
 use Rattle.script.specs.Blocks.{before, endOf}
 use Rattle.script.specs.Reading.{ended, partAt, pointed, octetAt, addressAt}
 use Rattle.script.proofs.PartLaws.{ended-told, ended-none}
-use Rattle.script.proofs.Booleans.{by-cases, both-true}
+use Rattle.answers.proofs.Booleans.{by-cases, both-true}
 use Rattle.script.proofs.Splitting.{split-first, digits-free, parts-last, Octet, one-or-more, first-octet}
-use Rattle.script.specs.declared.lines.Found.{Found}
-use Rattle.script.specs.declared.lines.Found.the-variants.{Number, Nothing}
+use Rattle.script.specs.declared.Found.{Found}
+use Rattle.script.specs.declared.Found.the-variants.{Number, Nothing}
 
 module _ (l : List ℕ) (at : ℕ) (r : Found) (told : r ≡ partAt point 255 l at) where
   pub octet-none : r ≡ Nothing → Nothing ≡ octetAt l at

@@ -1,5 +1,4 @@
--- What a caller needs of the places that it is given: a line that was found lies in its block, and a line that was written in
--- its buffer. Assumes nothing.
+-- What a caller needs of the place that it is given: a line that was found lies in its block. Assumes nothing.
 use Prim.Native.Nat.{ℕ, _+_, _≤_, _<_}
 use native.Mathlib.Omega.{arith}
 use mathlib.Core.Path.{_≡_, refl, sym, _∙_}
@@ -9,12 +8,12 @@ use lib.ListN.{length}
 use lib.Dec.{leb, ltb}
 use borrow.Author.Tests.{ltb-true, leb-true}
 use Rattle.script.specs.Blocks.{endOf, feed, feedAt}
-use Rattle.script.specs.Answers.{room, Printed}
-use Rattle.script.specs.declared.lines.Next.{Next}
-use Rattle.script.specs.declared.lines.Next.the-variants.{At, None}
-use Rattle.script.specs.declared.answers.Said.{Said}
-use Rattle.script.proofs.Booleans.{by-cases}
-use Rattle.script.proofs.DecimalLaws.{line-fits}
+use Rattle.answers.specs.Answers.{room, Printed}
+use Rattle.script.specs.declared.Next.{Next}
+use Rattle.script.specs.declared.Next.the-variants.{At, None}
+use Rattle.answers.specs.declared.Said.{Said}
+use Rattle.answers.proofs.Booleans.{by-cases}
+use Rattle.answers.proofs.DecimalLaws.{line-fits}
 
 found : (t : Bool) (e : ℕ) {i : ℕ} → cond t (At e) None ≡ At i → (t ≡ true) × (e ≡ i)
 found true e h = (refl, cc)
@@ -31,10 +30,3 @@ module _ (l : List ℕ) (from i : ℕ) (r : Next) (t : r ≡ feedAt l from) (h :
 
   pub feed-inside : i < length l
   feed-inside = omega (arith, ltb-true (endOf feed l from) (length l) (place .0), place .1)
-
-module _ (s : Said) (at : ℕ) (l q : List ℕ) (r : ℕ) (p : Printed s at l q r) where
-  pub printed-inside : at ≤ length l → r ≤ length l
-  printed-inside h =
-      by-cases (leb (at + room) (length l))
-      (λ e. omega (arith, rw e at (p .ended), leb-true (at + room) (length l) e, line-fits s))
-      (λ e. omega (arith, rw e at (p .ended)))

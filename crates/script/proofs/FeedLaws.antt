@@ -8,7 +8,7 @@ use lib.ListN.{length, getD, drop-of-length-le}
 use lib.Seq.{drop-cons}
 use borrow.Author.Tests.{lt-ltb, le-ltb, eq-eqb, ne-eqb}
 use Rattle.script.specs.Blocks.{before, endOf, feed, feedAt}
-use Rattle.script.specs.declared.lines.Next.the-variants.{At, None}
+use Rattle.script.specs.declared.Next.the-variants.{At, None}
 
 module _ (l : List ℕ) (from i : ℕ) (same : endOf feed l i ≡ endOf feed l from) where
   pub no-feed : length l ≤ i → None ≡ feedAt l from

@@ -9,13 +9,13 @@ use mathlib.Core.Option.{some}
 use lib.ListN.{length, length-append}
 use lib.Dec.{ltb, eqb}
 use borrow.Author.Tests.{le-leb, lt-ltb, ltb-true, eq-eqb, not-true}
-use Rattle.script.specs.Text.{text}
+use Rattle.answers.specs.Text.{text}
 use Rattle.script.specs.Lines.{digit, digits, valueFrom, number, onto, parts, both, numbers, four, address, only, call, fields, lineOf, largest, space, point}
-use Rattle.script.specs.Answers.{decimalIn, decimal, said, dotted}
-use Rattle.script.specs.declared.lines.Line.the-variants.{Announce, Withdraw, Look}
-use Rattle.script.proofs.Booleans.{by-cases, both-true}
+use Rattle.answers.specs.Answers.{decimalIn, decimal, said, dotted}
+use Rattle.script.specs.declared.Line.the-variants.{Announce, Withdraw, Look}
+use Rattle.answers.proofs.Booleans.{by-cases, both-true}
 use Rattle.script.proofs.Splitting.{free, digits-free, parts-last}
-use Rattle.script.proofs.DecimalLaws.{ten-digits, dotted-length}
+use Rattle.answers.proofs.DecimalLaws.{ten-digits, dotted-length}
 
 -- ---- numbers
 

@@ -1,12 +1,8 @@
-pub mod Booleans
 pub mod Splitting
 pub mod PartLaws
 pub mod AddressLaws
 pub mod LineLaws
 pub mod FeedLaws
-pub mod Storing
-pub mod DecimalLaws
-pub mod WritingLaws
 pub mod Inverse
 pub mod Callers
 pub mod Samples

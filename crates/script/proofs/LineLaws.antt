@@ -14,14 +14,14 @@ use Rattle.script.specs.Lines.{number, both, numbers, parts, onto, four,
 use Rattle.script.specs.Blocks.{before, endOf}
 use Rattle.script.specs.Reading.{rest, partAt, addressAt, counted, afterAt, called}
 use Rattle.script.proofs.PartLaws.{ended-told, ended-none}
-use Rattle.script.proofs.Booleans.{by-cases}
+use Rattle.answers.proofs.Booleans.{by-cases}
 use Rattle.script.proofs.Splitting.{split-first}
-use Rattle.script.specs.declared.lines.Line.{Line}
-use Rattle.script.specs.declared.lines.Line.the-variants.{Announce, Withdraw, Look, Bad}
-use Rattle.script.specs.declared.lines.Numbers.{Numbers}
-use Rattle.script.specs.declared.lines.Numbers.the-variants.{Zero, One, Two, Other}
-use Rattle.script.specs.declared.lines.Found.{Found}
-use Rattle.script.specs.declared.lines.Found.the-variants.{Number, Nothing}
+use Rattle.script.specs.declared.Line.{Line}
+use Rattle.script.specs.declared.Line.the-variants.{Announce, Withdraw, Look, Bad}
+use Rattle.script.specs.declared.Numbers.{Numbers}
+use Rattle.script.specs.declared.Numbers.the-variants.{Zero, One, Two, Other}
+use Rattle.script.specs.declared.Found.{Found}
+use Rattle.script.specs.declared.Found.the-variants.{Number, Nothing}
 
 -- ---- the numbers after an address
 

@@ -13,7 +13,7 @@ use borrow.Author.Tests.{le-leb, lt-leb, eq-eqb, ne-eqb}
 use Rattle.script.specs.Lines.{digit, digits, valueFrom, number}
 use Rattle.script.specs.Blocks.{before, endOf}
 use Rattle.script.specs.Reading.{ended, partAt, numberFrom, partFrom}
-use Rattle.script.specs.declared.lines.Found.the-variants.{Number, Nothing}
+use Rattle.script.specs.declared.Found.the-variants.{Number, Nothing}
 
 -- a value only grows
 grows : (l : List ℕ) (v : ℕ) → v ≤ valueFrom v l

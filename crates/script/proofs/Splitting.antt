@@ -11,7 +11,7 @@ use borrow.Author.Tests.{leb-true, eqb-true, ne-eqb, not-true}
 use Rattle.script.specs.Lines.{digit, digits, onto, parts, space, point}
 use Rattle.script.specs.Blocks.{before}
 use Rattle.script.specs.Reading.{rest}
-use Rattle.script.proofs.Booleans.{by-cases, both-true}
+use Rattle.answers.proofs.Booleans.{by-cases, both-true}
 
 -- a digit is no space and no point
 pub no-mark : (b m : ℕ) → digit b ≡ true → m < 48 → eqb b m ≡ false

@@ -5,8 +5,8 @@ use mathlib.Core.Bool.{cond}
 use mathlib.Core.List.{List, [], _∷_}
 use lib.ListN.{length, drop}
 use lib.Dec.{eqb, ltb}
-use Rattle.script.specs.declared.lines.Next.{Next}
-use Rattle.script.specs.declared.lines.Next.the-variants.{At, None}
+use Rattle.script.specs.declared.Next.{Next}
+use Rattle.script.specs.declared.Next.the-variants.{At, None}
 
 -- the bytes before the first mark, or all of them
 unfoldable pub before : ℕ → List ℕ → List ℕ

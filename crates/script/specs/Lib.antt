@@ -1,6 +1,3 @@
-pub mod Text
 pub mod Lines
 pub mod Blocks
 pub mod Reading
-pub mod Answers
-pub mod Writing

@@ -8,12 +8,12 @@ use lib.ListN.{length, drop}
 use lib.Dec.{leb, eqb, ltb}
 use Rattle.script.specs.Blocks.{before, endOf}
 use Rattle.script.specs.Lines.{digits, valueFrom, number, parts, numbers, address, space, point, largest}
-use Rattle.script.specs.declared.lines.Line.{Line}
-use Rattle.script.specs.declared.lines.Line.the-variants.{Announce, Withdraw, Look, Bad}
-use Rattle.script.specs.declared.lines.Numbers.{Numbers}
-use Rattle.script.specs.declared.lines.Numbers.the-variants.{Zero, One, Two, Other}
-use Rattle.script.specs.declared.lines.Found.{Found}
-use Rattle.script.specs.declared.lines.Found.the-variants.{Number, Nothing}
+use Rattle.script.specs.declared.Line.{Line}
+use Rattle.script.specs.declared.Line.the-variants.{Announce, Withdraw, Look, Bad}
+use Rattle.script.specs.declared.Numbers.{Numbers}
+use Rattle.script.specs.declared.Numbers.the-variants.{Zero, One, Two, Other}
+use Rattle.script.specs.declared.Found.{Found}
+use Rattle.script.specs.declared.Found.the-variants.{Number, Nothing}
 
 -- the parts after the mark that a list starts with
 unfoldable pub rest : ℕ → List ℕ → List (List ℕ)
