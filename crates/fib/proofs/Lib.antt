@@ -1,4 +1,3 @@
-pub mod UpdateAlike
 pub mod Setups
 pub mod Writing
 pub mod WrittenTables

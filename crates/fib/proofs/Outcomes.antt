@@ -1,10 +1,12 @@
 -- Any two outcomes that a call's contract admits agree, and each does what the demands say. Assumes nothing.
 use mathlib.Core.Path.{_≡_, refl, sym, ap, _∙_}
+use mathlib.Core.Bool.{Bool, true, false}
 use mathlib.Core.List.{List, []}
 use Prim.Native.Nat.{ℕ, zero, suc}
 use native.Mathlib.Omega.{arith}
 use Rattle.prefix.specs.Bits.{Bits, bits}
 use Rattle.prefix.proofs.BitLaws.{length-bits}
+use Rattle.prefix.proofs.Booleans.{clash, is-false}
 use Rattle.sizes.specs.Sizes.{setupNumber}
 use Rattle.sizes.specs.declared.Setup.{Setup}
 use Rattle.sizes.specs.declared.Setup.the-variants.{Done, ShortStore, BadLimit}
@@ -26,10 +28,10 @@ use Rattle.entries.specs.Caches.{entries}
 use Rattle.cache.specs.Calls.{CacheSetUp}
 use Rattle.updates.specs.Updates.{actionOf, updateOf, prefixOfUpdate, firstRefusal}
 use Rattle.updates.specs.declared.Update.{Update}
-use Rattle.pairs.specs.Pairs.{SoundPair, limitsOf}
+use Rattle.pairs.specs.Pairs.{SoundPair, limitsOf, PairChecked}
 use Rattle.pairs.specs.States.{stateOf}
 use Rattle.lookup.specs.Promises.{answerOf, LookedUp}
-use Rattle.refresh.specs.Promises.{updatedNumber, updatedOf, updateStep, UpdatePromise}
+use Rattle.refresh.specs.Promises.{updatedNumber, updatedOf, updateStep, Refused, UpdatePromise}
 use Rattle.fib.specs.Runs.{SameCache, SameTable}
 use Rattle.lookup.specs.declared.Looked.{Looked}
 use Rattle.refresh.specs.declared.Updated.{Updated}
@@ -126,17 +128,24 @@ updates-alike {r} {q} S A B =
       record { same-entries = a .state .are-entries ∙ sym (b .state .are-entries); same-limit = a .cache-kept .0 ∙ sym (b .cache-kept .0) },
     )
 
+-- two refusals with one number leave the same words
+refused-alike : {table cache w x c d : List ℕ} {t : Tallies} {r q : Updated} → Refused table cache w c t r → Refused table cache x d t q → r .number ≡ q .number → (r ≡ q) × (w ≡ x) × (c ≡ d)
+refused-alike {r} {q} a b e = (
+  same-updated r q e (a .no-counts .0 ∙ sym (b .no-counts .0)) (a .no-counts .1 ∙ sym (b .no-counts .1)) (a .same-tallies ∙ sym (b .same-tallies)),
+  a .same-table ∙ sym (b .same-table),
+  a .same-cache ∙ sym (b .same-cache),
+)
+
 -- "A refusal is a number from the table and changes nothing.": two refused updates leave the same words
 pub refusals-alike : {table cache w x c d : List ℕ} {t : Tallies} {u : Update} {r q : Updated}
     → SoundPair table cache
     → UpdatePromise table cache w c t u r
     → UpdatePromise table cache x d t u q
     → ¬ (r .number ≡ 0)
-    → (w ≡ x) × (c ≡ d)
+    → (r ≡ q) × (w ≡ x) × (c ≡ d)
 refusals-alike S A B n =
-    let a = A .refused S n in
-    let b = B .refused S (λ z. n (ap (λ (v : Updated). v .number) (updates-alike S A B .0) ∙ z)) in
-    (a .same-table ∙ sym (b .same-table), a .same-cache ∙ sym (b .same-cache))
+    let e = ap (λ (v : Updated). v .number) (updates-alike S A B .0) in
+    refused-alike (A .refused S n) (B .refused S (λ z. n (e ∙ z))) e
 
 -- "1 and 2 are given first on any store": sound or not, two such answers are the same, and every word stays
 pub first-refusals-alike : {table cache w x c d : List ℕ} {t : Tallies} {u : Update} {r q : Updated}
@@ -144,13 +153,16 @@ pub first-refusals-alike : {table cache w x c d : List ℕ} {t : Tallies} {u : U
     → UpdatePromise table cache x d t u q
     → ¬ (firstRefusal u ≡ 0)
     → (r ≡ q) × (w ≡ x) × (c ≡ d)
-first-refusals-alike {r} {q} A B n =
-    let a = A .first n in
-    let b = B .first n in (
-      same-updated r q (a .0 ∙ sym (b .0)) (a .1 .no-counts .0 ∙ sym (b .1 .no-counts .0)) (a .1 .no-counts .1 ∙ sym (b .1 .no-counts .1)) (a .1 .same-tallies ∙ sym (b .1 .same-tallies)),
-      a .1 .same-table ∙ sym (b .1 .same-table),
-      a .1 .same-cache ∙ sym (b .1 .same-cache),
-    )
+first-refusals-alike A B n = refused-alike (A .first n .1) (B .first n .1) (A .first n .0 ∙ sym (B .first n .0))
+
+-- then 9, on any table and a cache whose header does not fit it
+pub unfit-alike : {table cache w x c d : List ℕ} {t : Tallies} {u : Update} {r q : Updated}
+    → UpdatePromise table cache w c t u r
+    → UpdatePromise table cache x d t u q
+    → firstRefusal u ≡ 0
+    → ¬ (slots.Shaped cache)
+    → (r ≡ q) × (w ≡ x) × (c ≡ d)
+unfit-alike A B z n = refused-alike (A .unfit z n .1) (B .unfit z n .1) (A .unfit z n .0 ∙ sym (B .unfit z n .0))
 
 -- the model's outcome, with the routes in another order
 module _ (s : State) (v : routing.Update) (a b : Outcome) (one : OneEach (b .state .table)) (T : SameRoutes (a .state .table) (b .state .table)) (C : a .state .cache ≡ b .state .cache) (K : a .state .tallies ≡ b .state .tallies) (answer : a .answer ≡ b .answer) where
@@ -201,38 +213,35 @@ short-not-done e = omega (arith, ap setupNumber e)
 pub bad-not-done : ¬ (BadLimit ≡ Done)
 bad-not-done e = omega (arith, ap setupNumber e)
 
+-- what is read of two stores that set-ups of one store leave
+read-alike : {A : Type 0} (read : List ℕ → A) {w a b : List ℕ} (r : Setup) → (r ≡ Done → read a ≡ read b) → (¬ (r ≡ Done) → a ≡ w) → (¬ (r ≡ Done) → b ≡ w) → read a ≡ read b
+read-alike read Done f m n = f refl
+read-alike read ShortStore f m n = ap read (m short-not-done ∙ sym (n short-not-done))
+read-alike read BadLimit f m n = ap read (m bad-not-done ∙ sym (n bad-not-done))
+
 -- a table's set-up has one answer, and leaves one set of routes under one limit
 pub table-set-ups-alike : {w a b : List ℕ} {limit : ℕ} {r q : Setup} → TableSetUp w a limit r → TableSetUp w b limit q → (r ≡ q) × (routes a ≡ routes b) × (nodes.limitOf a ≡ nodes.limitOf b)
-table-set-ups-alike {w} {a} {b} {limit} {r} {q} A B = go r refl
-  where
-    same : r ≡ q
-    same = A .answer ∙ sym (B .answer)
-
-    refused : ¬ (r ≡ Done) → (r ≡ q) × (routes a ≡ routes b) × (nodes.limitOf a ≡ nodes.limitOf b)
-    refused n = let e : a ≡ b = A .refused n ∙ sym (B .refused (λ z. n (same ∙ z))) in (same, ap routes e, ap nodes.limitOf e)
-
-    go : (z : Setup) → r ≡ z → (r ≡ q) × (routes a ≡ routes b) × (nodes.limitOf a ≡ nodes.limitOf b)
-    go Done e =
-        let f = A .done e in
-        let g = B .done (sym same ∙ e) in
-        (same, f .no-routes ∙ sym (g .no-routes), f .its-limit ∙ sym (g .its-limit))
-    go ShortStore e = refused (λ z. short-not-done (sym e ∙ z))
-    go BadLimit e = refused (λ z. bad-not-done (sym e ∙ z))
+table-set-ups-alike {w} {b} {r} A B =
+    let e = A .answer ∙ sym (B .answer) in
+    let kept : ¬ (r ≡ Done) → b ≡ w = λ n. B .refused (λ z. n (e ∙ z)) in (
+      e,
+      read-alike routes r (λ d. A .done d .no-routes ∙ sym (B .done (sym e ∙ d) .no-routes)) (A .refused) kept,
+      read-alike nodes.limitOf r (λ d. A .done d .its-limit ∙ sym (B .done (sym e ∙ d) .its-limit)) (A .refused) kept,
+    )
 
 -- a cache's set-up has one answer, and leaves one list of entries under one limit
 pub cache-set-ups-alike : {w a b : List ℕ} {limit : ℕ} {r q : Setup} → CacheSetUp w a limit r → CacheSetUp w b limit q → (r ≡ q) × (entries a ≡ entries b) × (slots.limitOf a ≡ slots.limitOf b)
-cache-set-ups-alike {w} {a} {b} {limit} {r} {q} A B = go r refl
-  where
-    same : r ≡ q
-    same = A .answer ∙ sym (B .answer)
+cache-set-ups-alike {w} {b} {r} A B =
+    let e = A .answer ∙ sym (B .answer) in
+    let kept : ¬ (r ≡ Done) → b ≡ w = λ n. B .refused (λ z. n (e ∙ z)) in (
+      e,
+      read-alike entries r (λ d. A .done d .0 .are-entries ∙ sym (B .done (sym e ∙ d) .0 .are-entries)) (A .refused) kept,
+      read-alike slots.limitOf r (λ d. A .done d .1 ∙ sym (B .done (sym e ∙ d) .1)) (A .refused) kept,
+    )
 
-    refused : ¬ (r ≡ Done) → (r ≡ q) × (entries a ≡ entries b) × (slots.limitOf a ≡ slots.limitOf b)
-    refused n = let e : a ≡ b = A .refused n ∙ sym (B .refused (λ z. n (same ∙ z))) in (same, ap entries e, ap slots.limitOf e)
+-- ---- the check
 
-    go : (z : Setup) → r ≡ z → (r ≡ q) × (entries a ≡ entries b) × (slots.limitOf a ≡ slots.limitOf b)
-    go Done e =
-        let f = A .done e in
-        let g = B .done (sym same ∙ e) in
-        (same, f .0 .are-entries ∙ sym (g .0 .are-entries), f .1 ∙ sym (g .1))
-    go ShortStore e = refused (λ z. short-not-done (sym e ∙ z))
-    go BadLimit e = refused (λ z. bad-not-done (sym e ∙ z))
+-- on any stores the check has one answer
+pub checked-alike : (t w : List ℕ) (r s : Bool) → PairChecked t w r → PairChecked t w s → r ≡ s
+checked-alike t w true s K L = sym (L .1 (K .0 refl))
+checked-alike t w false s K L = sym (is-false (λ e. clash (K .1 (L .0 e)) refl))

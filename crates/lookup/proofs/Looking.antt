@@ -29,7 +29,7 @@ use Rattle.model.proofs.Legal.{legal-lookup}
 use Rattle.lru.specs.Sound as lru
 use Rattle.lru.proofs.Shape.{no-overlap}
 use Rattle.lru.proofs.Holding.{first-entry, omit-entry}
-use Rattle.slots.specs.Layout.{limitOf, entriesHeld, cacheOf, Shaped}
+use Rattle.slots.specs.Layout.{limitOf, entriesHeld, cacheOf}
 use Rattle.slots.specs.Headers.{HeaderRead}
 use Rattle.slots.specs.declared.Header.{Header}
 use Rattle.slots.specs.declared.Shape.{Shape}
@@ -146,18 +146,8 @@ module _ (w : List ℕ) (shape : Shape) (read : HeaderRead w shape) where
   pub broken : shape ≡ Broken → {table w′ : List ℕ} {t : Tallies} {address : ℕ} {r : Looked} → SoundPair table w → LookedUp table w w′ t address r
   broken e S = absurd ((rw e at read) (S .its-cache .shaped))
 
-  module _ (h : Header) (is : shape ≡ Fits h) where
-    facts-of : Shaped w × (h .limit ≡ limitOf w) × (h .entries ≡ entriesHeld w)
-    facts-of = rw is at read
-
-    pub header-shaped : Shaped w
-    header-shaped = facts-of .0
-
-    pub header-limit : h .limit ≡ limitOf w
-    header-limit = facts-of .1
-
-    pub header-entries : h .entries ≡ entriesHeld w
-    header-entries = facts-of .2
+  pub header-limit : (h : Header) → shape ≡ Fits h → h .limit ≡ limitOf w
+  header-limit h is = (rw is at read) .1
 
 -- ---- the whole
 

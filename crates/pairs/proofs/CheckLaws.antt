@@ -15,7 +15,7 @@ use Rattle.prefix.specs.Bits.{bits}
 use Rattle.prefix.specs.Prefix.{strictlyInside}
 use Rattle.prefix.specs.Addresses.{addressBits}
 use Rattle.prefix.specs.declared.Address.{Address}
-use Rattle.prefix.proofs.Booleans.{clash, is-false}
+use Rattle.prefix.proofs.Booleans.{clash}
 use Rattle.model.specs.Routes.{Route, match}
 use Rattle.model.specs.Model.{Entry}
 use Rattle.model.specs.Demands.{Covered}
@@ -24,9 +24,8 @@ use Rattle.lru.specs.Sound as lru
 use Rattle.lru.proofs.Holding.{slot-entry, entry-slot}
 use Rattle.slots.specs.Layout.{slotWord, word, entriesHeld, cacheOf}
 use Rattle.slots.specs.Headers.{HeaderRead}
-use Rattle.slots.specs.declared.Header.{Header}
 use Rattle.slots.specs.declared.Shape.{Shape}
-use Rattle.slots.specs.declared.Shape.the-variants.{Fits, Broken}
+use Rattle.slots.specs.declared.Shape.the-variants.{Broken}
 use Rattle.table.specs.Tables.{routes, SoundTable, TableChecked}
 use Rattle.search.specs.Matches.{foundFor}
 use Rattle.search.specs.Standings.{Judged, JudgedAt}
@@ -137,12 +136,3 @@ module _ (w : List ℕ) (r : Bool) (K : EntriesChecked w r) where
 module _ (w : List ℕ) (shape : Shape) (read : HeaderRead w shape) where
   pub pair-broken : (t : List ℕ) → shape ≡ Broken → PairChecked t w false
   pair-broken t e = refused t w (λ S. (rw e at read) (S .its-cache .shaped))
-
-  pub held-read : (h : Header) → shape ≡ Fits h → h .entries ≡ entriesHeld w
-  held-read h e = (rw e at read) .2
-
--- ---- the contract leaves no two answers open
-
-pub checked-alike : (t w : List ℕ) (r s : Bool) → PairChecked t w r → PairChecked t w s → r ≡ s
-checked-alike t w true s K L = sym (L .1 (K .0 refl))
-checked-alike t w false s K L = sym (is-false (λ e. clash (K .1 (L .0 e)) refl))

@@ -1,5 +1,6 @@
 -- `lookup::look_up` meets its contract. Assumes nothing.
-use Rattle.lookup.proofs.Looking.{broken, header-shaped, header-entries, hit-slot, header-limit, looked-hit, looked-miss}
+use Rattle.cache.proofs.EntryChecks.{header-shaped, header-entries}
+use Rattle.lookup.proofs.Looking.{broken, header-limit, hit-slot, looked-hit, looked-miss}
 use borrow.Author.Needs.{needs}
 use Rattle.lookup.proofs.look_up.Statement.{statement}
 use Rattle.lookup.proofs.look_up.Tie as tie

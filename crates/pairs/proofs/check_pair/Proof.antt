@@ -1,6 +1,7 @@
 -- `pairs::check_pair` meets its contract. Assumes nothing.
 use borrow.Author.Needs.{needs}
-use Rattle.pairs.proofs.CheckLaws.{table-wrong, table-sound, cache-wrong, cache-sound, pair-broken, held-read}
+use Rattle.cache.proofs.EntryChecks.{header-entries}
+use Rattle.pairs.proofs.CheckLaws.{table-wrong, table-sound, cache-wrong, cache-sound, pair-broken}
 use Rattle.pairs.proofs.check_pair.Statement.{statement}
 use Rattle.pairs.proofs.check_pair.Tie as tie
 
@@ -29,7 +30,7 @@ returns-3 : tie.Need-returns-3
 returns-3 c = search (needs, pair-broken)
 
 all-covered-requires : tie.Need-all-covered-requires
-all-covered-requires c κs = ((search (needs, table-sound), cache-sound _ _ (c .before .before .before .before .before .check-entries .ensures) (c .before .before .before .before .if2 .left)), search (needs, held-read))
+all-covered-requires c κs = ((search (needs, table-sound), cache-sound _ _ (c .before .before .before .before .before .check-entries .ensures) (c .before .before .before .before .if2 .left)), search (needs, header-entries))
 
 returns-4 : tie.Need-returns-4
 returns-4 c = search needs
