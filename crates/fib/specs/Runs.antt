@@ -3,7 +3,7 @@
 use mathlib.Core.Path.{_≡_}
 use mathlib.Core.List.{List, [], _∷_}
 use mathlib.Core.Logic.{_↔_}
-use Prim.Native.Nat.{ℕ}
+use Prim.Native.Nat.{ℕ, _^_, _<_}
 use Rattle.prefix.specs.Bits.{bits}
 use Rattle.sizes.specs.declared.Setup.{Setup}
 use Rattle.sizes.specs.declared.Setup.the-variants.{Done}
@@ -22,10 +22,19 @@ use Rattle.pairs.specs.Pairs.{SoundPair, limitsOf}
 use Rattle.pairs.specs.States.{stateOf}
 use Rattle.lookup.specs.Promises.{answerOf, LookedUp}
 use Rattle.refresh.specs.Promises.{updatedOf, UpdatePromise}
+use Rattle.lookup.specs.declared.Answer as lookup
+use Rattle.lookup.specs.declared.Answer.the-variants.{Hit, Miss, Drop, Unsound}
 use Rattle.lookup.specs.declared.Looked.{Looked}
 use Rattle.refresh.specs.declared.Updated.{Updated}
 
 -- ---- two outcomes of one call
+
+-- an answer's address is a word of 32 bits, as its type in the code has it
+abbrev pub AddressFits : lookup.Answer → Type 0
+AddressFits (Hit hop) = Unit {0}
+AddressFits (Miss hop address length nodes) = address < 2 ^ 32
+AddressFits (Drop nodes) = Unit {0}
+AddressFits Unsound = Unit {0}
 
 -- what two caches that a call may leave have in common
 pub record SameCache (c d : List ℕ) : Type 0 where
