@@ -11,8 +11,9 @@ use lib.Dec.{eqb}
 use lib.Seq.{set-getD}
 use Rattle.prefix.specs.Bits.{Bits, bits, one?, digit}
 use Rattle.prefix.specs.Prefix.{contains, common, shared}
-use Rattle.prefix.specs.Addresses.{addressBits}
+use Rattle.prefix.specs.Addresses.{addressBits, ipv4Bits}
 use Rattle.prefix.specs.declared.Address.{Address}
+use Rattle.prefix.proofs.BitLaws.{bit-small}
 use Rattle.model.specs.Demands.{Hop}
 use Rattle.trie.specs.Trie.{Kid, Trie, Dense, Put}
 use Rattle.trie.specs.Updates.{hopAt, leafAt, spliceAt, forkAt}
@@ -26,8 +27,8 @@ use Rattle.nodes.specs.declared.Node.{Node}
 use Rattle.nodes.specs.declared.Shape.the-variants.{Fits}
 use Rattle.nodes.proofs.Coding.{numbered-node, none-numbered, cell-side}
 use Rattle.nodes.proofs.Spelling.{trie-mark}
-use Rattle.table.specs.Tables.{ipv4Bits, routes, SoundTable}
-use Rattle.table.proofs.Reading.{length-sought, bit-small, node-bits}
+use Rattle.table.specs.Tables.{routes, SoundTable}
+use Rattle.table.proofs.Reading.{length-sought, node-bits}
 use Rattle.announce.specs.Writes.{Roomy, NodeOf, onlyChild, inserted, withLeaf, above, withAbove, withFork}
 use Rattle.announce.specs.Steps.{announcement, announcementAt, Belongs, Adds, Meets}
 use Rattle.verdicts.specs.Verdicts.{Answered, NodeAt}

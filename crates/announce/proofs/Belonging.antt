@@ -9,7 +9,7 @@ use lib.Seq.{getD-take}
 use mir.Syntax.{w32}
 use mir.Val as Int
 use Rattle.prefix.specs.Bits.{one?, digit}
-use Rattle.prefix.specs.Addresses.{addressBits}
+use Rattle.prefix.specs.Addresses.{addressBits, ipv4Bits}
 use Rattle.prefix.specs.declared.Address.{Address}
 use Rattle.prefix.proofs.Order.{below-<}
 use Rattle.model.specs.Demands.{Hop}
@@ -22,10 +22,11 @@ use Rattle.nodes.specs.declared.Header.{Header}
 use Rattle.nodes.specs.declared.Shape.{Shape}
 use Rattle.nodes.specs.declared.Shape.the-variants.{Fits}
 use Rattle.nodes.proofs.Coding.{none-numbered, cell-root, cell-side}
-use Rattle.table.specs.Tables.{ipv4Bits, SoundTable}
+use Rattle.table.specs.Tables.{SoundTable}
 use Rattle.table.specs.Stops.{Stopped}
 use Rattle.table.specs.declared.Stop.{Stop}
-use Rattle.table.proofs.Reading.{length-sought, bit-small}
+use Rattle.table.proofs.Reading.{length-sought}
+use Rattle.prefix.proofs.BitLaws.{bit-small}
 use Rattle.verdicts.specs.Verdicts.{Answered}
 use Rattle.announce.specs.Steps.{announcement, announcementAt, Sought, Belongs, Adds}
 use Rattle.verdicts.specs.declared.Verdict.{Verdict}

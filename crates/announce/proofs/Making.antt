@@ -5,11 +5,10 @@ use native.Mathlib.Omega.{arith}
 use lib.ListN.{take}
 use Rattle.prefix.specs.Bits.{bits}
 use Rattle.prefix.specs.Prefix.{trimmed}
-use Rattle.prefix.specs.Addresses.{addressBits}
+use Rattle.prefix.specs.Addresses.{addressBits, ipv4Bits}
 use Rattle.prefix.specs.declared.Address.{Address}
 use Rattle.prefix.proofs.Trimming.{take-trimmed, take-of-trimmed}
 use Rattle.nodes.specs.declared.Node.{Node}
-use Rattle.table.specs.Tables.{ipv4Bits}
 use Rattle.announce.specs.Writes.{NodeOf, onlyChild}
 
 -- a word of an address's first n bits

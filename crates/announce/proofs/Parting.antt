@@ -9,13 +9,12 @@ use lib.Seq.{take-take, getD-take, length-take-le}
 use borrow.Author.Tests.{le-leb, lt-leb}
 use Rattle.prefix.specs.Bits.{one?, digit}
 use Rattle.prefix.specs.Prefix.{contains, common, shared}
-use Rattle.prefix.specs.Addresses.{addressBits}
+use Rattle.prefix.specs.Addresses.{addressBits, ipv4Bits}
 use Rattle.prefix.specs.declared.Address.{Address}
 use Rattle.prefix.proofs.Order.{⊑-eq, ⊑-of-eq, below-<}
 use Rattle.prefix.proofs.Common.{common-take, shared-length, shared-fork}
 use Rattle.prefix.proofs.Tests.{contains-⊑, not-⊑, contains-common}
 use Rattle.prefix.proofs.AddressLaws.{length-address}
-use Rattle.table.specs.Tables.{ipv4Bits}
 use Rattle.table.proofs.Reading.{length-sought}
 
 pub bit-digit : (b : Bool) → one? (digit b) ≡ b

@@ -8,7 +8,7 @@ use lib.ListN.{take}
 use Rattle.prefix.specs.declared.Address.{Address}
 use Rattle.prefix.specs.Bits.{Bits, bits}
 use Rattle.prefix.specs.Prefix.{contains, common}
-use Rattle.prefix.specs.Addresses.{addressBits}
+use Rattle.prefix.specs.Addresses.{addressBits, ipv4Bits}
 use Rattle.model.specs.Routes as model
 use Rattle.model.specs.Demands.{Hop}
 use Rattle.trie.specs.Trie.{Inside, Fits, Dense}
@@ -16,7 +16,7 @@ use Rattle.nodes.specs.Layout.{nodeWord, word, nodesOf, numbered, cellOf, trieO
 use Rattle.nodes.specs.Headers.{HeaderRead}
 use Rattle.nodes.specs.declared.Header.{Header}
 use Rattle.nodes.specs.declared.Shape.the-variants as shape
-use Rattle.table.specs.Tables.{ipv4Bits, routes, SoundTable}
+use Rattle.table.specs.Tables.{routes, SoundTable}
 use Rattle.table.specs.Stops.{Stopped}
 use Rattle.table.specs.declared.Stop.{Stop}
 

@@ -22,6 +22,7 @@ use Rattle.slots.specs.Headers.{HeaderRead}
 use Rattle.slots.specs.declared.Header.{Header}
 use Rattle.slots.specs.declared.Shape.{Shape}
 use Rattle.slots.specs.declared.Shape.the-variants.{Fits, Broken}
+use Rattle.slots.proofs.HeaderLaws.{header-shaped, header-entries}
 use Rattle.slots.proofs.ReadLaws.{read-branch}
 use Rattle.entries.specs.Caches.{SoundEntries}
 use Rattle.cache.specs.Calls.{EntriesChecked}
@@ -94,33 +95,33 @@ module _ (w : List ℕ) (shape : Shape) (read : HeaderRead w shape) where
   check-broken e = refused w (λ S. (rw e at read) (S .shaped))
 
   module _ (h : Header) (is : shape ≡ Fits h) where
-    pub header-shaped : Shaped w
-    header-shaped = (rw is at read) .0
+    shaped : Shaped w
+    shaped = header-shaped w shape read h is
 
-    pub header-entries : h .entries ≡ entriesHeld w
-    header-entries = (rw is at read) .2
+    held : h .entries ≡ entriesHeld w
+    held = header-entries w shape read h is
 
     pub check-root : (r : Bool) → Decides (RootOk (h .entries) (cacheOf w)) r → not r ≡ true → EntriesChecked w false
-    check-root r d e = refused w (λ S. d .no (not-true r e) (rw header-entries (sound-checked (S .slots) .root)))
+    check-root r d e = refused w (λ S. d .no (not-true r e) (rw held (sound-checked (S .slots) .root)))
 
     module _ (i : ℕ) (P : Passed w i) where
       module _ (l : i ≤ h .entries) (r : Bool) (d : Decides (SlotFine w i) r) where
         pub check-slot : not r ≡ true → EntriesChecked w false
-        check-slot e = refused w (λ S. d .no (not-true r e) (slot-fine w S i (P .from, omega (arith, header-entries))))
+        check-slot e = refused w (λ S. d .no (not-true r e) (slot-fine w S i (P .from, omega (arith, held))))
 
         pub next-fits : val.Fits w32 (i + 1)
-        next-fits = let s = header-shaped in omega (arith, header-entries, s .legal, s .entries-fit)
+        next-fits = let s = shaped in omega (arith, held, s .legal, s .entries-fit)
 
         pub passed-on : not r ≡ false → Passed w (i + 1)
         passed-on e = record {
           from = omega arith;
-          upto = omega (arith, header-entries);
+          upto = omega (arith, held);
           fine = λ k a b. elim (ℕ-discrete k i) [ yes z ↦ rw z (d .yes (not-false r e)) | no z ↦ P .fine k a (omega arith) ];
         }
 
       module _ (past : h .entries < i) (r : Bool) (root : Decides (RootOk (h .entries) (cacheOf w)) r) (e : not r ≡ false) (s : Bool) (ring : Decides (Ring (h .entries) (cacheOf w)) s) where
         fine : (k : ℕ) → Slot (entriesHeld w) k → SlotFine w k
-        fine k l = P .fine k (l .0) (omega (arith, header-entries, P .upto))
+        fine k l = P .fine k (l .0) (omega (arith, held, P .upto))
 
         branch-ok : (k : ℕ) → Slot (entriesHeld w) k → 1 < k → BranchOk (entriesHeld w) (cacheOf w) k
         branch-ok k l u = let b = fine k l .branch u in record { short = b .short; hangs = b .hangs; leads = λ d. leads w k d u (b .short) (side b d) }
@@ -132,13 +133,13 @@ module _ (w : List ℕ) (shape : Shape) (read : HeaderRead w shape) where
         pub check-all : EntriesChecked w s
         check-all = (
           λ z. record {
-            shaped = header-shaped;
+            shaped = shaped;
             plain = record { short = λ k a b. fine k (a, b) .plain };
             slots = checked-sound (record {
-              root = rw (← header-entries) (root .yes (not-false r e));
+              root = rw (← held) (root .yes (not-false r e));
               slots = λ k l. record { entry = fine k l .hangs; branch = branch-ok k l };
-              ring = rw (← header-entries) (ring .yes z);
+              ring = rw (← held) (ring .yes z);
             });
           },
-          λ S. is-true (λ z. ring .no z (rw header-entries (S .slots .ring))),
+          λ S. is-true (λ z. ring .no z (rw held (S .slots .ring))),
         )

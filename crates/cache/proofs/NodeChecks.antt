@@ -14,7 +14,7 @@ use Rattle.prefix.specs.Prefix.{contains, common}
 use Rattle.prefix.specs.Addresses.{addressBits}
 use Rattle.prefix.specs.declared.Address.{Address}
 use Rattle.prefix.proofs.Booleans.{clash}
-use Rattle.prefix.proofs.BitLaws.{digit-one, length-bits}
+use Rattle.prefix.proofs.BitLaws.{digit-one, length-bits, bit-digit}
 use Rattle.prefix.proofs.Common.{common-sym, common-take}
 use Rattle.prefix.proofs.Tests.{contains-common}
 use Rattle.prefix.proofs.AddressLaws.{ipv4-contains, ipv4-bit}
@@ -166,10 +166,6 @@ module _ (w : List ℕ) (i side x m : ℕ) (is-m : m ≡ word w (slotWord i 7) %
         };
         no = λ z g. omega (arith, m-is, shared-is, g .agrees, leb-false m both (sym s-is ∙ z));
       }
-        where
-          bit-digit : (b : Bool) → one? (digit b) ≡ b
-          bit-digit false = refl
-          bit-digit true = refl
 
 -- ---- what a cell points at
 

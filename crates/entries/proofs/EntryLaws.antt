@@ -7,24 +7,21 @@ use lib.ListN.{length, take, length-take}
 use lib.Seq.{take-take}
 use Rattle.prefix.specs.Bits.{bits}
 use Rattle.prefix.specs.Prefix.{common, prefixOf}
-use Rattle.prefix.specs.Addresses.{addressBits}
+use Rattle.prefix.specs.Addresses.{addressBits, ipv4Bits}
 use Rattle.prefix.specs.declared.Address.{Address}
 use Rattle.prefix.proofs.BitLaws.{length-bits}
 use Rattle.prefix.proofs.Common.{common-sym, common-le}
 use Rattle.prefix.proofs.Order.{take-len}
-use Rattle.prefix.proofs.AddressLaws.{length-address, common-32}
+use Rattle.prefix.proofs.AddressLaws.{common-32, length-ipv4}
 use Rattle.lru.specs.Sound as lru
 use Rattle.lru.specs.Results.{Short}
 use Rattle.slots.specs.Layout.{slotWord, word, entriesHeld, cacheOf}
-use Rattle.entries.specs.Caches.{ipv4Bits, entries}
+use Rattle.entries.specs.Caches.{entries}
 use Rattle.entries.specs.Walks.{CommonWith}
 
 pub none-held : (w : List ℕ) → entriesHeld w ≡ 0 → entries w ≡ []
 unfolding entries lru.entries lru.order lru.stretch
 none-held w e = rw e
-
-pub length-ipv4 : (x : Address) → length (ipv4Bits x) ≡ 32
-length-ipv4 x = take-len 32 (addressBits x) (omega (arith, length-address x))
 
 -- no entry is longer than an address
 pub entry-short : (w : List ℕ) (i : ℕ) → length (cacheOf w .entry i) ≤ 32

@@ -7,6 +7,7 @@ use native.Mathlib.Numerals.{add-one}
 use native.Mathlib.Omega.{arith}
 use Rattle.prefix.specs.Bits.{Bits}
 use Rattle.prefix.specs.Prefix.{contains, common, _⊑_}
+use Rattle.prefix.specs.Addresses.{ipv4Bits}
 use Rattle.prefix.specs.declared.Address.{Address}
 use Rattle.prefix.proofs.Common.{common-sym, common-⊑, le-common}
 use Rattle.prefix.proofs.Order.{⊑-refl}
@@ -18,7 +19,7 @@ use Rattle.lru.specs.Results as results
 use Rattle.lru.proofs.Walking.{find-nearest}
 use Rattle.lru.proofs.Holding.{entry-slot, nearest-largest}
 use Rattle.slots.specs.Layout.{slotWord, word, entriesHeld, cacheOf}
-use Rattle.entries.specs.Caches.{ipv4Bits, entries, SoundEntries, NearestTo}
+use Rattle.entries.specs.Caches.{entries, SoundEntries, NearestTo}
 use Rattle.entries.specs.Walks.{CommonWith, Walked}
 use Rattle.entries.specs.declared.find.Nearest.the-variants.{Hit, Miss}
 use Rattle.entries.proofs.EntryLaws.{none-held, all-short, entry-size}

@@ -8,30 +8,27 @@ use lib.ListN.{getD}
 use lib.Seq.{getD-take}
 use Rattle.prefix.specs.Bits.{Bits, digit}
 use Rattle.prefix.specs.Prefix.{common}
-use Rattle.prefix.specs.Addresses.{addressBits}
+use Rattle.prefix.specs.Addresses.{addressBits, ipv4Bits}
 use Rattle.prefix.specs.declared.Address.{Address}
+use Rattle.prefix.proofs.BitLaws.{bit-small}
+use Rattle.prefix.proofs.AddressLaws.{length-ipv4}
 use Rattle.lru.specs.Slots.{cellOf}
 use Rattle.lru.specs.Sound.{Live}
 use Rattle.lru.specs.Changes.{passes, towards, walk}
-use Rattle.lru.proofs.Nodes.{digit-small}
 use Rattle.lru.proofs.Shape.{branch-short}
 use Rattle.lru.proofs.Walking.{find-start, passes-branch, stops-entry, stops-miss, walk-on, walk-end, on-start, on-step}
 use Rattle.slots.specs.Layout.{slotWord, cellWord, word, entriesHeld, cacheOf}
 use Rattle.slots.proofs.ReadLaws.{read-child, read-branch}
-use Rattle.entries.specs.Caches.{ipv4Bits, SoundEntries}
+use Rattle.entries.specs.Caches.{SoundEntries}
 use Rattle.entries.specs.Walks.{CommonWith, Going, Turned, Walked}
 use Rattle.entries.specs.declared.find.Turn.{Turn}
 use Rattle.entries.specs.declared.find.Turn.the-variants.{On, End}
-use Rattle.entries.proofs.EntryLaws.{length-ipv4, entry-short, all-short}
+use Rattle.entries.proofs.EntryLaws.{entry-short, all-short}
 
 -- ---- the cell on a side
 
-module _ (x : Bits) (m i r : ℕ) (e : r ≡ digit (getD x m false)) where
-  pub bit-small : r < 2
-  bit-small = omega (arith, digit-small (getD x m false))
-
-  pub side-is : (2 * i + r ≡ cellOf i (getD x m false)) × ((2 * i + r) / 2 ≡ i)
-  side-is = (ap (λ k. 2 * i + k) e, omega (arith, bit-small))
+pub side-is : (x : Bits) (m i r : ℕ) → r ≡ digit (getD x m false) → (2 * i + r ≡ cellOf i (getD x m false)) × ((2 * i + r) / 2 ≡ i)
+side-is x m i r e = (ap (λ k. 2 * i + k) e, omega (arith, bit-small x m r e))
 
 -- ---- one turn
 

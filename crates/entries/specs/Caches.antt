@@ -3,12 +3,10 @@ use mathlib.Core.Path.{_≡_}
 use mathlib.Core.Bool.{true, false, cond}
 use mathlib.Core.List.{List, [], _∷_, _++_, map}
 use Prim.Native.Nat.{ℕ, suc, _<_, _≤_}
-use lib.ListN.{take, drop}
+use lib.ListN.{drop}
 use lib.Dec.{eqb}
 use Rattle.prefix.specs.Bits.{Bits}
 use Rattle.prefix.specs.Prefix.{contains, overlap, common}
-use Rattle.prefix.specs.Addresses.{addressBits}
-use Rattle.prefix.specs.declared.Address.{Address}
 use Rattle.sizes.specs.Sizes.{cacheNeed}
 use Rattle.model.specs.Lists.{_∈_, largest}
 use Rattle.model.specs.Model.{Entry, Cache}
@@ -18,10 +16,6 @@ use Rattle.lru.specs.Results.{others}
 use Rattle.slots.specs.Layout.{limitOf, entriesHeld, cacheOf, Shaped, Plain}
 use Rattle.entries.specs.declared.find.Nearest.{Nearest}
 use Rattle.entries.specs.declared.find.Nearest.the-variants.{Hit, Miss}
-
--- the IPv4 address that an address value stands for
-abbrev pub ipv4Bits : Address → Bits
-ipv4Bits a = take 32 (addressBits a)
 
 -- the entries of a store in their order of use, the most recently used first
 unfoldable pub entries : List ℕ → Cache

@@ -4,11 +4,11 @@ ghost use mathlib.Core.Path.{_≡_};
 ghost use mathlib.Core.Bool.{false};
 ghost use Prim.Native.Nat.{_/_, _≤_, _<_};
 ghost use lib.ListN.{getD};
-ghost use Rattle.prefix.specs.Addresses.{addressBits};
+ghost use Rattle.prefix.specs.Addresses.{addressBits, ipv4Bits};
 ghost use Rattle.sizes.specs.Sizes.{largestLimit};
 ghost use Rattle.lru.specs.Slots.{cellOf};
 ghost use Rattle.slots.specs.Layout.{entriesHeld, Shaped, Room};
-ghost use Rattle.entries.specs.Caches.{ipv4Bits, NearestTo};
+ghost use Rattle.entries.specs.Caches.{NearestTo};
 ghost use Rattle.entries.specs.Walks.{CommonWith, Turned, Walked};
 
 // What the entries say of an address: the one in this slot contains it; or none does, and then one more than the most bits

@@ -5,6 +5,7 @@ use mathlib.Core.List.{List, []}
 use Prim.Native.Nat.{ℕ, zero, suc}
 use native.Mathlib.Omega.{arith}
 use Rattle.prefix.specs.Bits.{Bits, bits}
+use Rattle.prefix.specs.Addresses.{ipv4Bits}
 use Rattle.prefix.proofs.BitLaws.{length-bits}
 use Rattle.prefix.proofs.Booleans.{clash, is-false}
 use Rattle.sizes.specs.Sizes.{setupNumber}
@@ -23,7 +24,7 @@ use Rattle.model.proofs.Updates.{update-outcome, update-refused, only-refreshed
 use Rattle.model.proofs.SameRoutes.{flip, refreshed-same, removed-same, changed-same}
 use Rattle.nodes.specs.Layout as nodes
 use Rattle.slots.specs.Layout as slots
-use Rattle.table.specs.Tables.{routes, ipv4Bits, TableSetUp}
+use Rattle.table.specs.Tables.{routes, TableSetUp}
 use Rattle.entries.specs.Caches.{entries}
 use Rattle.cache.specs.Calls.{CacheSetUp}
 use Rattle.updates.specs.Updates.{actionOf, updateOf, prefixOfUpdate, firstRefusal}

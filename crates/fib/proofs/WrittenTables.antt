@@ -9,6 +9,7 @@ use lib.ListN.{length}
 use lib.Dec.{ltb}
 use borrow.Author.Tests.{lt-ltb, le-ltb}
 use Rattle.prefix.specs.Prefix.{prefixOf}
+use Rattle.prefix.proofs.BitLaws.{digit-below}
 use Rattle.sizes.specs.Sizes.{LegalLimit, tableNeed}
 use Rattle.model.specs.Lists.{_∈_}
 use Rattle.model.specs.Routes.{Route, Table}
@@ -21,7 +22,7 @@ use Rattle.trie.proofs.Holding.{held-in, agrees-routes, routes-distinct}
 use Rattle.trie.proofs.NodeSet.{slots-short}
 use Rattle.trie.proofs.Carrying.{Carried, carried}
 use Rattle.nodes.specs.Layout.{nodeWord, word, limitOf, nodesOf, routeCount, numbered, cellOf, cellNumber, childIn, trieOf}
-use Rattle.nodes.proofs.Coding.{cell-numbered, number-not-one, digit-below}
+use Rattle.nodes.proofs.Coding.{cell-numbered, number-not-one}
 use Rattle.table.specs.Tables.{routes, SoundTable}
 use Rattle.fib.proofs.Writing.{wordEnd, Words, words, words-length, words-at, words-below, addressFor, address-below, prefix-coded}
 

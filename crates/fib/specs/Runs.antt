@@ -5,6 +5,7 @@ use mathlib.Core.List.{List, [], _∷_}
 use mathlib.Core.Logic.{_↔_}
 use Prim.Native.Nat.{ℕ, _^_, _<_}
 use Rattle.prefix.specs.Bits.{bits}
+use Rattle.prefix.specs.Addresses.{ipv4Bits}
 use Rattle.sizes.specs.declared.Setup.{Setup}
 use Rattle.sizes.specs.declared.Setup.the-variants.{Done}
 use Rattle.tallies.specs.declared.Tallies.{Tallies}
@@ -13,7 +14,7 @@ use Rattle.model.specs.Runs as model
 use Rattle.model.specs.Demands.{SameRoutes, Alike, LegalState}
 use Rattle.nodes.specs.Layout as nodes
 use Rattle.slots.specs.Layout as slots
-use Rattle.table.specs.Tables.{routes, ipv4Bits, TableSetUp}
+use Rattle.table.specs.Tables.{routes, TableSetUp}
 use Rattle.entries.specs.Caches.{entries}
 use Rattle.cache.specs.Calls.{CacheSetUp}
 use Rattle.updates.specs.Updates.{actionOf}

@@ -9,11 +9,12 @@ use lib.ListN.{take, getD}
 use lib.Seq.{getD-take}
 use Rattle.prefix.specs.Bits.{Bits, bits}
 use Rattle.prefix.specs.Prefix.{common, _⊑_}
-use Rattle.prefix.specs.Addresses.{addressBits}
+use Rattle.prefix.specs.Addresses.{addressBits, ipv4Bits}
 use Rattle.prefix.specs.declared.Address.{Address}
 use Rattle.prefix.proofs.Common.{common-lt}
 use Rattle.prefix.proofs.Order.{take-⊑}
 use Rattle.prefix.proofs.Tests.{apart-not}
+use Rattle.prefix.proofs.AddressLaws.{length-ipv4}
 use Rattle.lru.specs.Slots.{Cache, entryNode, branchNode, cellOf, setEntry, setBranchLength, setChild, setUp}
 use Rattle.lru.specs.Sound as lru
 use Rattle.lru.specs.Changes.{pushFront, insertFirst, hang, insertAt}
@@ -27,12 +28,12 @@ use Rattle.slots.specs.Layout.{limitOf, entriesHeld, upIn, cacheOf, Room, Shape
 use Rattle.slots.specs.Stores.{putEntry, putChild, putUp}
 use Rattle.slots.proofs.ReadLaws.{read-up}
 use Rattle.slots.proofs.KeptLaws.{kept-then, kept-same, plain-entry}
-use Rattle.entries.specs.Caches.{ipv4Bits, entries, Free, SoundEntries}
+use Rattle.entries.specs.Caches.{entries, Free, SoundEntries}
 use Rattle.entries.specs.Changed.{Slots}
 use Rattle.entries.specs.Walks.{CommonWith, Walked}
 use Rattle.insertion.specs.Hangs.{forked, Beside, Hung}
 use Rattle.entries.proofs.Changing.{Stored, none-stored, entry-stored, child-stored, up-stored, branch-stored}
-use Rattle.entries.proofs.EntryLaws.{length-ipv4, entry-short, all-short}
+use Rattle.entries.proofs.EntryLaws.{entry-short, all-short}
 use Rattle.entries.proofs.Lows.{sound-low}
 
 -- ---- the node where the walk stops, and its cell

@@ -6,8 +6,9 @@ ghost use mathlib.Core.Path.{_≡_};
 ghost use mathlib.Core.List.{_∷_};
 ghost use Prim.Native.Nat.{suc, _/_, _≤_, _<_};
 ghost use lib.ListN.{take};
+ghost use Rattle.prefix.specs.Addresses.{ipv4Bits};
 ghost use Rattle.slots.specs.Layout.{limitOf, entriesHeld, Shaped};
-ghost use Rattle.entries.specs.Caches.{ipv4Bits, entries as heldEntries, Free, SoundEntries, Kept, Holds};
+ghost use Rattle.entries.specs.Caches.{entries as heldEntries, Free, SoundEntries, Kept, Holds};
 ghost use Rattle.entries.specs.Changed.{Slots};
 ghost use Rattle.insertion.specs.Hangs.{forked, Beside, Hung};
 

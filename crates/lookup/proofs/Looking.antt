@@ -9,10 +9,11 @@ use native.Mathlib.Omega.{arith}
 use lib.ListN.{length, take}
 use Rattle.prefix.specs.Bits.{bits}
 use Rattle.prefix.specs.Prefix.{contains}
-use Rattle.prefix.specs.Addresses.{addressBits}
+use Rattle.prefix.specs.Addresses.{addressBits, ipv4Bits}
 use Rattle.prefix.specs.declared.Address.{Address}
 use Rattle.prefix.proofs.Booleans.{clash}
 use Rattle.prefix.proofs.Tests.{contains-⊑, apart-not}
+use Rattle.prefix.proofs.AddressLaws.{length-ipv4}
 use Rattle.tallies.specs.Counting.{afterDrop}
 use Rattle.tallies.specs.declared.Tallies.{Tallies}
 use Rattle.model.specs.Lists.{_∈_, first}
@@ -38,10 +39,9 @@ use Rattle.table.specs.Tables.{routes, SoundTable}
 use Rattle.search.specs.Matches.{foundFor, Matched}
 use Rattle.search.specs.declared.Answer as search
 use Rattle.search.specs.declared.Found.the-variants.{Match, Nothing}
-use Rattle.entries.specs.Caches.{ipv4Bits, entries, Slot, entryIn, othersIn, Free, SoundEntries, NearestTo, Holds}
+use Rattle.entries.specs.Caches.{entries, Slot, entryIn, othersIn, Free, SoundEntries, NearestTo, Holds}
 use Rattle.entries.specs.declared.find.Nearest.{Nearest}
 use Rattle.entries.specs.declared.find.Nearest.the-variants.{Hit, Miss}
-use Rattle.entries.proofs.EntryLaws.{length-ipv4}
 use Rattle.pairs.specs.Pairs.{SoundPair}
 use Rattle.pairs.specs.States.{CacheKept}
 use Rattle.lookup.specs.Promises.{answerOf, ClearedIn, LookedUp}

@@ -7,7 +7,7 @@ use lib.ListN.{length, take, length-append}
 use lib.Seq.{take-at, take-all}
 use Rattle.prefix.specs.Bits.{Bits, bits}
 use Rattle.prefix.specs.Prefix.{trimmed}
-use Rattle.prefix.specs.Addresses.{addressBits}
+use Rattle.prefix.specs.Addresses.{addressBits, ipv4Bits}
 use Rattle.prefix.specs.declared.Address.{Address}
 use Rattle.prefix.proofs.Trimming.{take-trimmed, take-of-trimmed, trimmed-longer}
 use Rattle.tallies.specs.Counting.{afterHit, afterMiss}
@@ -17,7 +17,7 @@ use Rattle.model.specs.Model.{Entry}
 use Rattle.model.proofs.ListLaws.{take-in}
 use Rattle.slots.specs.Layout.{slotWord, word, limitOf, entriesHeld, cacheOf, Shaped}
 use Rattle.slots.specs.declared.Header.{Header}
-use Rattle.entries.specs.Caches.{ipv4Bits, entries, entryIn, othersIn, Free, SoundEntries, Kept, Holds, Removes, Oldest}
+use Rattle.entries.specs.Caches.{entries, entryIn, othersIn, Free, SoundEntries, Kept, Holds, Removes, Oldest}
 use Rattle.lookup.specs.Lookups.{Used, FirstBits, Stored, Cleared, MadeRoom}
 use Rattle.lookup.specs.declared.Answer.the-variants.{Hit, Miss}
 use Rattle.lookup.specs.declared.Looked.{Looked}

@@ -10,6 +10,7 @@ use native.Mathlib.Omega.{arith}
 use lib.ListN.{length, take, getD}
 use Rattle.prefix.specs.Bits.{Bits, one?}
 use Rattle.prefix.specs.Prefix.{common, _⊑_, Below}
+use Rattle.prefix.proofs.BitLaws.{digit-below}
 use Rattle.prefix.proofs.Order.{⊑-length, take-⊑, take-len, below-⊑, below-<, below-bit, below-trans, below-by-length}
 use Rattle.prefix.proofs.Common.{le-common, common-⊑}
 use Rattle.trie.specs.Trie.{Cell, Root, Kid, Inside, Fits, Points, Owned}
@@ -19,7 +20,7 @@ use Rattle.lru.specs.Slots.{Cache, entryNode, branchNode, cellOf, rootCe
 use Rattle.lru.specs.Sound.{prefixAt, hopAt, pointer, childAt, cellAt, trie, Slot, Live, along, Ring, SoundCache, order}
 use Rattle.lru.specs.Checks.{lengthAt, Hangs, Leads, BranchOk, RootOk, Checked, Walked}
 use Rattle.lru.specs.Results.{without}
-use Rattle.lru.proofs.Nodes.{Node, is-entry, is-branch, node, digit-small, prefix-entry, prefix-branch, hop-entry, child-entry, child-branch, pointer-some, some-pointer, cell-root, cell-branch, child-cell}
+use Rattle.lru.proofs.Nodes.{Node, is-entry, is-branch, node, prefix-entry, prefix-branch, hop-entry, child-entry, child-branch, pointer-some, some-pointer, cell-root, cell-branch, child-cell}
 use Rattle.lru.proofs.Shape.{inside-cell, Pointed, pointed, hangs, root-full, branch-full, branch-short, prefix-slot}
 use Rattle.lru.proofs.Rings.{Chain, without-keep, without-length}
 use Rattle.lru.proofs.Orders.{ring-order, order-ring, in-slot, order-all, order-distinct}
@@ -74,7 +75,7 @@ module _ {n : ℕ} {c : Cache} (S : SoundCache n c) where
       record { live = P .live; knows = P .knows; longer = rw (← length-at c (branch-short S) (c .child (cellOf i b)) (P .live)) (t .0); agrees = t .1; side = t .2 }
     where
       P : Pointed n c (cellOf i b)
-      P = pointed S (cellOf i b) (inr (omega (arith, digit-small b))) (branch-full S i b h k)
+      P = pointed S (cellOf i b) (inr (omega (arith, digit-below b))) (branch-full S i b h k)
 
   root-ok : RootOk n c
   root-ok = record {

@@ -9,6 +9,7 @@ use native.Mathlib.Omega.{arith}
 use lib.ListN.{length, take}
 use Rattle.prefix.specs.Bits.{Bits}
 use Rattle.prefix.specs.Prefix.{_⊑_, Below}
+use Rattle.prefix.proofs.BitLaws.{digit-below}
 use Rattle.prefix.proofs.Order.{⊑-trans, ⊑-length, ⊑-total, ⊑-cases, ⊑-take, below-⊑, below-bit, below-trans, take-⊑}
 use Rattle.trie.specs.Trie.{Cell, Root, Kid, Inside, Fits, Points, Sound, Branchy, Removed}
 use Rattle.trie.proofs.Descent.{inject, under}
@@ -20,7 +21,7 @@ use Rattle.trie.proofs.Withdrawing.{Without, pair-removed}
 use Rattle.lru.specs.Slots.{Cache, entryNode, branchNode, cellOf, setEntry, setBranchLength, setChild, setUp, setPrev, setNext}
 use Rattle.lru.specs.Sound.{prefixAt, hopAt, pointer, childAt, cellAt, trie, Slot, Live, InUse, SoundCache}
 use Rattle.lru.specs.Changes.{moveLinks, prune, moveEntry, moveBranch}
-use Rattle.lru.proofs.Nodes.{Node, is-entry, is-branch, node, digit-small, prefix-entry, prefix-branch, hop-entry, hop-branch, child-entry, child-branch, pointer-some, some-pointer, cell-branch, child-cell, prefix-same, hop-same, child-same}
+use Rattle.lru.proofs.Nodes.{Node, is-entry, is-branch, node, prefix-entry, prefix-branch, hop-entry, hop-branch, child-entry, child-branch, pointer-some, some-pointer, cell-branch, child-cell, prefix-same, hop-same, child-same}
 use Rattle.lru.proofs.Shape.{hangs, branch-full, branch-short, branch-length}
 
 -- ---- the entry of slot k, which hangs on the side b of the branch in slot j, is cut out with that branch
@@ -38,7 +39,7 @@ module _ {n : ℕ} {c : Cache} (S : SoundCache n c) (k j : ℕ) (b : Bool) (lk :
     where
       go : InUse n (c .up (entryNode k)) → (1 < j) × (j ≤ n)
       go (inl e) = absurd (omega arith)
-      go (inr h) = let s = digit-small b in omega (arith, is-up)
+      go (inr h) = let s = digit-below b in omega (arith, is-up)
 
   cell-k : cellAt (c .up (entryNode k)) ≡ Kid (branchNode j) b
   cell-k = ap cellAt is-up ∙ cell-branch j b pos

@@ -1,12 +1,12 @@
 -- The numbers of nodes and cells, and what of the slots a node and a cell depend on. Assumes nothing.
 use mathlib.Core.Path.{_≡_, refl, sym, ap, _∙_}
-use mathlib.Core.Bool.{Bool, true, false}
+use mathlib.Core.Bool.{Bool}
 use mathlib.Core.Option.{none, some, Option·none-ne-some}
 use Prim.Native.Nat.{ℕ, zero, suc, _+_, _*_, _/_, _%_, _<_}
 use native.Mathlib.Omega.{arith}
 use lib.ListN.{take}
 use Rattle.prefix.specs.Bits.{one?, digit}
-use Rattle.prefix.proofs.BitLaws.{digit-one}
+use Rattle.prefix.proofs.BitLaws.{digit-one, bit-digit, digit-below}
 use Rattle.trie.specs.Trie.{Cell, Root, Kid, Inside}
 use Rattle.trie.proofs.Stores.{kid-slot, kid-side, not-root}
 use Rattle.lru.specs.Slots.{Cache, entryNode, branchNode, cellOf, rootCell}
@@ -30,14 +30,6 @@ even i = omega arith
 
 odd : (i : ℕ) → ((2 * i + 1) % 2 ≡ 1) × ((2 * i + 1) / 2 ≡ i)
 odd i = omega arith
-
-pub digit-small : (b : Bool) → digit b < 2
-digit-small false = omega arith
-digit-small true = omega arith
-
-pub one-digit : (b : Bool) → one? (digit b) ≡ b
-one-digit false = refl
-one-digit true = refl
 
 module _ (c : Cache) (i : ℕ) where
   pub prefix-entry : prefixAt c (entryNode i) ≡ c .entry i
@@ -93,10 +85,10 @@ cell-suc (suc q) h = refl
 
 pub cell-branch : (i : ℕ) (b : Bool) → 0 < i → cellAt (cellOf i b) ≡ Kid (branchNode i) b
 cell-branch i b h =
-    let s = digit-small b in
+    let s = digit-below b in
     let p : (2 * i + digit b) / 2 ≡ i = omega arith in
     let q : (2 * i + digit b) % 2 ≡ digit b = omega arith in
-    cell-suc (cellOf i b) (omega arith) ∙ rw (p, q, one-digit b)
+    cell-suc (cellOf i b) (omega arith) ∙ rw (p, q, bit-digit b)
 
 -- a cell number is the root cell's, or that of a slot and a side
 pub cell-split : (q : ℕ) → q ≡ cellOf (q / 2) (one? (q % 2))

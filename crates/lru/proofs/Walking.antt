@@ -12,6 +12,7 @@ use Rattle.prefix.specs.Prefix.{common, shared, _⊑_, Below}
 use Rattle.prefix.proofs.Order.{⊑-refl, ⊑-trans, ⊑-length, ⊑-by-length, ⊑-total, below-⊑, below-<, below-trans, below-by-length, take-⊑}
 use Rattle.prefix.proofs.Common.{common-sym, shared-left, shared-right, shared-great, shared-length, le-common, common-⊑}
 use Rattle.prefix.proofs.Booleans.{is-false, clash}
+use Rattle.prefix.proofs.BitLaws.{digit-below}
 use Rattle.trie.specs.Trie.{Cell, Root, Kid, Fits}
 use Rattle.trie.proofs.Next.{next-below}
 use Rattle.trie.proofs.Descent.{through}
@@ -19,7 +20,7 @@ use Rattle.lru.specs.Slots.{Cache, entryNode, branchNode, cellOf, rootCe
 use Rattle.lru.specs.Sound.{prefixAt, pointer, cellAt, trie, Slot, Live, InUse, SoundCache}
 use Rattle.lru.specs.Changes.{passes, towards, walk, find}
 use Rattle.lru.specs.Results.{Short, Nearest}
-use Rattle.lru.proofs.Nodes.{Node, is-entry, is-branch, node, digit-small, prefix-entry, prefix-branch, pointer-some, child-cell, cell-root, cell-branch}
+use Rattle.lru.proofs.Nodes.{Node, is-entry, is-branch, node, prefix-entry, prefix-branch, pointer-some, child-cell, cell-root, cell-branch}
 use Rattle.lru.proofs.Shape.{pointed, hangs, root-full, branch-full, inside-cell, apart, branch-short, branch-length, prefix-slot}
 
 -- ---- the walk, as a loop takes it: start, one step, and the two ends
@@ -115,7 +116,7 @@ module _ {n : ℕ} {c : Cache} (S : SoundCache n c) (X : Bits) where
             cell = cell-branch i b (omega (arith, lo))
 
             q : InUse n (cellOf i b)
-            q = inr (omega (arith, lo, hi, digit-small b))
+            q = inr (omega (arith, lo, hi, digit-below b))
 
             f : Below (prefixAt c (branchNode i)) b X
             f =

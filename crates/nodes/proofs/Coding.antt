@@ -1,11 +1,10 @@
 -- Numbers of nodes and of cells. Assumes nothing.
 use mathlib.Core.Path.{_≡_, refl, sym, _∙_}
-use mathlib.Core.Bool.{Bool, true, false}
 use mathlib.Core.Option.{none, some, Option·none-ne-some}
 use Prim.Native.Nat.{ℕ, zero, suc, _+_, _-_, _*_, _/_, _%_, _<_}
 use native.Mathlib.Omega.{arith}
 use Rattle.prefix.specs.Bits.{one?, digit}
-use Rattle.prefix.proofs.BitLaws.{digit-bit}
+use Rattle.prefix.proofs.BitLaws.{digit-bit, bit-digit, digit-below}
 use Rattle.trie.specs.Trie.{Cell, Root, Kid}
 use Rattle.nodes.specs.Layout.{nodeWord, cellWord, numbered, cellOf, cellNumber}
 
@@ -33,14 +32,6 @@ unfolding numbered
 none-numbered = refl
 
 -- ---- a number of a cell
-
-bit-digit : (b : Bool) → one? (digit b) ≡ b
-bit-digit false = refl
-bit-digit true = refl
-
-pub digit-below : (b : Bool) → digit b < 2
-digit-below false = omega arith
-digit-below true = omega arith
 
 cell-kid : (q : ℕ) → 0 < q → cellOf q ≡ Kid (q / 2 - 1) (one? (q % 2))
 unfolding cellOf

@@ -11,6 +11,7 @@ use lib.ListN.{length, set, length-set}
 use lib.Seq.{getD-set-same, getD-set-other}
 use Rattle.prefix.specs.Bits.{Bits, one?, digit}
 use Rattle.prefix.specs.Prefix.{prefixOf}
+use Rattle.prefix.proofs.BitLaws.{digit-below}
 use Rattle.trie.specs.Trie.{Cell, Root, Kid, Trie}
 use Rattle.trie.specs.Updates.{upd, cell-dec, setNode, setHop, setChild, setUp, setSlot}
 use Rattle.trie.proofs.Stores.{upd-same, upd-other}
@@ -18,7 +19,7 @@ use Rattle.nodes.specs.Layout.{nodeWord, cellWord, word, numbered, cellO
 use Rattle.nodes.specs.Stores.{putMark, putUp, putChild, putNode, putCounts, filledAt, nodeIn, emptied}
 use Rattle.nodes.specs.declared.Node.{Node}
 use Rattle.nodes.proofs.Keeping.{mark-header, child-header}
-use Rattle.nodes.proofs.Coding.{cell-numbered, number-celled, cell-side, side-word, digit-below}
+use Rattle.nodes.proofs.Coding.{cell-numbered, number-celled, cell-side, side-word}
 
 -- ---- what a read word says
 

@@ -1,21 +1,20 @@
 -- Laws of the 128 bits of an address. Assumes nothing.
 use mathlib.Core.Path.{_≡_, refl, sym, ap, ap₂, _∙_}
-use mathlib.Core.Bool.{Bool, false}
-use mathlib.Core.List.{List, _++_, append-assoc}
-use Prim.Native.Nat.{ℕ, _+_, _-_, _*_, _/_, _%_, _^_, _≤_, _<_, min}
-use native.Mathlib.Nat.{mod-lt}
+use mathlib.Core.Bool.{false}
+use mathlib.Core.List.{_++_}
+use Prim.Native.Nat.{ℕ, _+_, _-_, _*_, _/_, _^_, _≤_, _<_, min}
 use native.Mathlib.Omega.{arith}
-use lib.ListN.{length, take, drop, getD, replicate, length-append, take-append-drop}
-use lib.Seq.{length-take-le, take-append-le, take-append-seam, drop-append-seam, take-at, drop-at, drop-drop, take-take, getD-take}
+use lib.ListN.{length, take, drop, getD, replicate, length-append}
+use lib.Seq.{length-take-le, take-append-le, take-at, drop-at, take-take, getD-take}
 use lib.Dec.{leb}
-use lib.Pow.{pow-pos, split, shl-shr}
+use lib.Pow.{shl-shr}
 use Rattle.prefix.specs.Bits.{Bits, bits}
 use Rattle.prefix.specs.Prefix.{contains, common, trimmed, prefixOf}
-use Rattle.prefix.proofs.BitLaws.{length-bits, take-bits, bits-inj, bits-append, bits-zero, trim-bits, common-word-less, common-word-full, word-at, word-past}
+use Rattle.prefix.proofs.BitLaws.{length-bits, take-bits, bits-inj, bits-zero, trim-bits, common-word-less, common-word-full, word-at, word-past}
 use Rattle.prefix.proofs.Common.{common-sym, common-take, common-take-both, common-of-take}
 use Rattle.prefix.proofs.Tests.{contains-common, contains-of-take}
 use Rattle.prefix.proofs.Trimming.{trimmed-append, trimmed-take, trimmed-all, trimmed-none, trimmed-longer, take-of-trimmed}
-use Rattle.prefix.specs.Addresses.{addressBits}
+use Rattle.prefix.specs.Addresses.{addressBits, ipv4Bits}
 use Rattle.prefix.specs.declared.Address.{Address}
 
 pub length-address : (a : Address) → length (addressBits a) ≡ 128
@@ -83,6 +82,9 @@ trimmed-inj n a b ha hb ea eb e =
     address-inj a b ha hb (ea ∙ trimmed-take n (addressBits a) (addressBits b) (length-address a ∙ sym (length-address b)) e ∙ sym eb)
 
 -- ---- IPv4: the first 32 bits
+
+pub length-ipv4 : (a : Address) → length (ipv4Bits a) ≡ 32
+length-ipv4 a = length-take-le 32 (addressBits a) (omega (arith, length-address a))
 
 -- the first 32 bits of a are x
 pub first-word : (a : Address) → take 32 (addressBits a) ≡ bits 32 (a .high / 2 ^ 32)

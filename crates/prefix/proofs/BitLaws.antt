@@ -1,20 +1,18 @@
 -- Laws of the bits of a number, at any width, and what xor and leading zeros say of prefixes. Assumes nothing.
-use mathlib.Core.Path.{_≡_, refl, sym, ap, ap₂, _∙_, subst}
+use mathlib.Core.Path.{_≡_, refl, sym, ap, ap₂, _∙_}
 use mathlib.Core.Logic.{_↔_}
 use mathlib.Core.Bool.{Bool, true, false, cond, Bool·beq}
-use mathlib.Core.List.{List, [], _∷_, _++_}
+use mathlib.Core.List.{_++_}
 use Prim.Native.Nat.{ℕ, zero, suc, _+_, _-_, _*_, _/_, _%_, _^_, _≤_, _<_, min}
 use native.Mathlib.Nat.{pow-suc, mod-one, mod-lt, mod-eq-of-lt, zero-div, div-mul-le-self, le-trans, mul-le-mul-right, le-mul-of-pos-right, mul-assoc, mul-comm}
-use native.Mathlib.Numerals.{add-one, one-add}
+use native.Mathlib.Numerals.{one-add}
 use native.Mathlib.Omega.{arith}
-use lib.ListN.{length, take, drop, getD, replicate, List·getD-append}
-use lib.Seq.{getD-append-add, length-take-le}
-use borrow.Author.Tests.{le-leb, lt-leb, eq-eqb, ne-eqb}
-use native.Mathlib.Decide.{decLe}
-use lib.Dec.{leb, eqb, leb·zero, leb·suc-zero, leb·suc-suc}
+use lib.ListN.{length, take, getD, replicate, List·getD-append}
+use lib.Seq.{getD-append-add}
+use lib.Dec.{leb}
 use lib.Bits.{bitXor, xor-shr, xor-mod, xor-lt, xor-comm}
 use lib.Count.{leadingZeros, under, leading-length, leading-unique}
-use lib.Pow.{pow-pos, pow-mono, pow-add, shr-shr, mod-pow-add, mod-mod-pow, field, high, low, split, shr-lt}
+use lib.Pow.{pow-pos, pow-add, shr-shr, mod-pow-add, mod-mod-pow, field, high, low, shr-lt}
 use Rattle.prefix.specs.Bits.{Bits, one?, digit, bits, value}
 use Rattle.prefix.specs.Prefix.{contains, common, prefixOf, trimmed}
 use Rattle.prefix.proofs.Common.{common-take, common-append-less, common-append-full, common-le}
@@ -30,6 +28,17 @@ digit-one (suc (suc d)) h = absurd (omega arith)
 
 pub digit-bit : (n : ℕ) → digit (one? (n % 2)) ≡ n % 2
 digit-bit n = digit-one (n % 2) (mod-lt n (omega arith))
+
+pub bit-digit : (b : Bool) → one? (digit b) ≡ b
+bit-digit false = refl
+bit-digit true = refl
+
+pub digit-below : (b : Bool) → digit b < 2
+digit-below false = omega arith
+digit-below true = omega arith
+
+pub bit-small : (l : Bits) (i x : ℕ) → x ≡ digit (getD l i false) → x < 2
+bit-small l i x e = omega (arith, digit-below (getD l i false))
 
 -- ---- the bits of a number
 

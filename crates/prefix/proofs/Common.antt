@@ -1,8 +1,7 @@
 -- Laws of Common and of the longest common prefix. Assumes nothing.
 use mathlib.Core.Path.{_≡_, refl, sym, ap, ap₂, _∙_}
-use mathlib.Core.Bool.{Bool, true, false, not, cond, Bool·beq, Bool-discrete}
-use mathlib.Core.List.{List, [], _∷_, _++_}
-use mathlib.Core.Logic.{_⊎_, inl, inr}
+use mathlib.Core.Bool.{Bool, true, false, not, cond, Bool·beq}
+use mathlib.Core.List.{[], _∷_, _++_}
 use Prim.Native.Nat.{ℕ, zero, suc, _+_, _≤_, _<_, min}
 use native.Mathlib.Nat.{zero-add, suc-add, zero-min, min-zero, suc-min-suc}
 use native.Mathlib.Decide.{decLe}
@@ -11,7 +10,7 @@ use lib.ListN.{length, take}
 use Rattle.prefix.specs.Bits.{Bits}
 use Rattle.prefix.specs.Prefix.{common, shared, _⊑_, ⊑nil, ⊑cons, Below, here, there}
 use Rattle.prefix.proofs.Booleans.{beq-eq, beq-refl, beq-sym}
-use Rattle.prefix.proofs.Order.{⊑-trans, ⊑-length, ⊑-by-length, ⊑-antisym, ⊑-eq, ⊑-of-eq, take-⊑, take-len, below-is, below-⊑, below-bit, below-by-length}
+use Rattle.prefix.proofs.Order.{⊑-trans, ⊑-length, ⊑-by-length, ⊑-eq, ⊑-of-eq, take-⊑, take-len, below-is, below-⊑, below-bit, below-by-length}
 
 -- ---- Common
 

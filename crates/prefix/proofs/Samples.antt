@@ -1,7 +1,7 @@
 -- The definitions at numbers. Assumes nothing.
 use mathlib.Core.Path.{_≡_, refl}
 use mathlib.Core.Bool.{true, false}
-use mathlib.Core.List.{List, [], _∷_}
+use mathlib.Core.List.{[], _∷_}
 use lib.ListN.{take}
 use Prim.Native.Nat.{_+_, _^_}
 use Rattle.prefix.specs.Bits.{bits}

@@ -6,7 +6,7 @@ use mathlib.Core.Logic.{_⊎_, inl, inr}
 use Prim.Native.Nat.{ℕ, zero, suc, _≤_, _<_}
 use native.Mathlib.Omega.{arith}
 use lib.ListN.{length, take}
-use lib.Dec.{ltb, leb, leb·zero, leb·suc-zero, leb·suc-suc}
+use lib.Dec.{leb, leb·zero, leb·suc-zero, leb·suc-suc}
 use mathlib.Core.Path.{ap}
 use mathlib.Core.Bool.{cond}
 use borrow.Author.Tests.{ltb-true, lt-ltb}

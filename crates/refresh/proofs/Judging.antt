@@ -9,7 +9,7 @@ use lib.ListN.{length, take}
 use lib.Seq.{take-take}
 use Rattle.prefix.specs.Bits.{Bits, bits}
 use Rattle.prefix.specs.Prefix.{contains, strictlyInside, same, _⊑_}
-use Rattle.prefix.specs.Addresses.{addressBits}
+use Rattle.prefix.specs.Addresses.{addressBits, ipv4Bits}
 use Rattle.prefix.specs.declared.Address.{Address}
 use Rattle.prefix.proofs.Booleans.{or-right, clash}
 use Rattle.prefix.proofs.Order.{take-len, take-⊑, ⊑-take}
@@ -23,7 +23,7 @@ use Rattle.model.proofs.ListLaws.{in-any}
 use Rattle.model.proofs.Match.{match-longest, match-none}
 use Rattle.model.proofs.Updates.{leaving-leaves}
 use Rattle.slots.specs.Layout.{slotWord, word, cacheOf}
-use Rattle.table.specs.Tables.{ipv4Bits, routes}
+use Rattle.table.specs.Tables.{routes}
 use Rattle.search.specs.Matches.{foundFor}
 use Rattle.search.specs.Standings.{Judged, JudgedAt}
 use Rattle.search.specs.declared.Found.the-variants.{Match, Nothing}

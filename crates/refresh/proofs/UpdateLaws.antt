@@ -9,6 +9,7 @@ use native.Mathlib.Omega.{arith}
 use lib.ListN.{take}
 use borrow.Author.Tests.{lt-ltb}
 use Rattle.prefix.specs.Bits.{Bits}
+use Rattle.prefix.specs.Addresses.{ipv4Bits}
 use Rattle.tallies.specs.declared.Tallies.{Tallies}
 use Rattle.tallies.specs.Counting.{afterUpdate}
 use Rattle.model.specs.Lists.{_∈_, keep}
@@ -27,7 +28,7 @@ use Rattle.slots.specs.Layout.{Shaped}
 use Rattle.slots.specs.Headers.{HeaderRead}
 use Rattle.slots.specs.declared.Shape.{Shape}
 use Rattle.slots.specs.declared.Shape.the-variants.{Broken}
-use Rattle.table.specs.Tables.{ipv4Bits, routes, SoundTable}
+use Rattle.table.specs.Tables.{routes, SoundTable}
 use Rattle.entries.specs.Caches.{entries}
 use Rattle.verdicts.specs.Verdicts as verdicts
 use Rattle.verdicts.specs.Verdicts.{verdictNumber, TableAfter}

@@ -5,12 +5,13 @@ use mathlib.Core.List.{List}
 use Prim.Native.Nat.{ℕ, _+_, _-_, _≤_, _<_}
 use lib.ListN.{length, take}
 use Rattle.prefix.specs.Prefix.{same}
+use Rattle.prefix.specs.Addresses.{ipv4Bits}
 use Rattle.prefix.specs.declared.Address.{Address}
 use Rattle.sizes.specs.Sizes.{largestLimit}
 use Rattle.model.specs.Routes as model
 use Rattle.model.specs.Model.{Entry, withdraws, leaves, fresh, refreshed, removed, changed}
 use Rattle.slots.specs.Layout.{entriesHeld, Shaped}
-use Rattle.table.specs.Tables.{ipv4Bits, routes, SoundTable}
+use Rattle.table.specs.Tables.{routes, SoundTable}
 use Rattle.entries.specs.Caches.{entries, SoundEntries, Slot, entryIn, Kept}
 use Rattle.updates.specs.Updates.{actionOf, prefixOfUpdate, updateOf}
 use Rattle.updates.specs.declared.Prefix.{Prefix}

@@ -7,7 +7,7 @@ use Rattle.tallies.specs.declared.Tallies.{Tallies}
 use Rattle.model.specs.Model as model
 use Rattle.model.specs.Runs.{Outcome, step, update}
 use Rattle.slots.specs.Layout.{Shaped}
-use Rattle.table.specs.Tables.{ipv4Bits}
+use Rattle.prefix.specs.Addresses.{ipv4Bits}
 use Rattle.updates.specs.Updates.{actionOf, firstRefusal}
 use Rattle.updates.specs.declared.Update.{Update}
 use Rattle.pairs.specs.Pairs.{SoundPair, limitsOf}

@@ -7,9 +7,9 @@ use native.Mathlib.Decide.{ℕ-discrete}
 use native.Mathlib.Omega.{arith}
 use lib.Dec.{eqb}
 use borrow.Author.Tests.{eq-eqb, ne-eqb}
+use Rattle.prefix.proofs.BitLaws.{digit-below}
 use Rattle.lru.specs.Slots.{Cache, entryNode, branchNode, cellOf}
 use Rattle.lru.specs.Changes.{prune, moveEntry, fillEntry}
-use Rattle.lru.proofs.Nodes.{digit-small}
 use Rattle.entries.specs.Changed.{Low}
 use Rattle.entries.proofs.Lows.{low-child, low-up, low-entry, low-links}
 use Rattle.removal.specs.Removal.{hung}
@@ -21,7 +21,7 @@ low-hang l q x hq hx = low-up (low-child l q x hx) x q hq
 pub low-prune : {n : ℕ} {c : Cache} → Low n c → (j : ℕ) (b : Bool) → 1 < j → j ≤ n → Low n (prune c j b)
 unfolding prune hung
 low-prune {n} {c} l j b more h =
-    low-hang l (c .up (branchNode j)) (c .child (cellOf j (not b))) (l .up-low (branchNode j) (omega arith)) (l .child-low (cellOf j (not b)) (inr (omega (arith, digit-small (not b)))))
+    low-hang l (c .up (branchNode j)) (c .child (cellOf j (not b))) (l .up-low (branchNode j) (omega arith)) (l .child-low (cellOf j (not b)) (inr (omega (arith, digit-below (not b)))))
 
 pub low-move : {n : ℕ} {c : Cache} → Low n c → (s t : ℕ) → 0 < s → s ≤ n → t ≤ n → Low n (moveEntry c s t)
 unfolding moveEntry hung

@@ -8,9 +8,9 @@ use native.Mathlib.Decide.{ℕ-discrete}
 use native.Mathlib.Omega.{arith}
 use borrow.Author.Tests.{eq-eqb, ne-eqb}
 use Rattle.prefix.specs.Bits.{bits, one?, digit}
+use Rattle.prefix.proofs.BitLaws.{digit-below}
 use Rattle.lru.specs.Slots.{Cache, branchNode, cellOf, setEntry, setBranchLength, setChild, setUp}
 use Rattle.lru.specs.Changes.{unlink, moveLinks, prune, moveEntry, moveBranch, fillEntry, fillSlot, removeAt}
-use Rattle.lru.proofs.Nodes.{digit-small}
 use Rattle.lru.proofs.Stores.{prune-stores, entry-stores, branch-stores}
 use Rattle.slots.specs.Layout.{slotWord, cellWord, word, upIn, cacheOf, Plain}
 use Rattle.slots.specs.Stores.{putEntry, putChild, putUp}
@@ -52,7 +52,7 @@ pub prunes : {n : ℕ} {w w′ : List ℕ} {x q : ℕ} (cell : ℕ) → 1 < cell
 unfolding hung
 prunes {n} {w} {w′} {x} {q} cell more low ex eq a = record {
   kept = a .kept;
-  does = λ t. a .does (rw up (t .low .up-low (branchNode j) (omega arith)), rw down (t .low .child-low (cellOf j (not b)) (inr (omega (arith, digit-small (not b)))))) ∙ prune-stores (cacheOf w) j b x q down up;
+  does = λ t. a .does (rw up (t .low .up-low (branchNode j) (omega arith)), rw down (t .low .child-low (cellOf j (not b)) (inr (omega (arith, digit-below (not b)))))) ∙ prune-stores (cacheOf w) j b x q down up;
 }
   where
     j : ℕ

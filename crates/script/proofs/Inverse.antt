@@ -31,16 +31,16 @@ unfolding valueFrom
 value-append [] y v = refl
 value-append (b ∷ x) y v = value-append x y (v * 10 + (b - 48))
 
-one-digit : (n : ℕ) → n < 10 → digits ((48 + n) ∷ []) ≡ true
+bit-digit : (n : ℕ) → n < 10 → digits ((48 + n) ∷ []) ≡ true
 unfolding digits digit
-one-digit n h = rw (le-leb 48 (48 + n) (omega arith), le-leb (48 + n) 57 (omega arith))
+bit-digit n h = rw (le-leb 48 (48 + n) (omega arith), le-leb (48 + n) 57 (omega arith))
 
 decimal-digits : (places n : ℕ) → digits (decimalIn places n) ≡ true
 unfolding decimalIn
 decimal-digits zero n = unfold digits in refl
 decimal-digits (suc k) n =
-    by-cases (ltb n 10) (λ e. rw e (one-digit n (ltb-true _ _ e)))
-    (λ e. rw e (digits-append (decimalIn k (n / 10)) _ (decimal-digits k (n / 10)) (one-digit (n % 10) (omega arith))))
+    by-cases (ltb n 10) (λ e. rw e (bit-digit n (ltb-true _ _ e)))
+    (λ e. rw e (digits-append (decimalIn k (n / 10)) _ (decimal-digits k (n / 10)) (bit-digit (n % 10) (omega arith))))
 
 decimal-value : (places n : ℕ) → n < 10 ^ places → 0 < places → valueFrom 0 (decimalIn places n) ≡ n
 unfolding decimalIn

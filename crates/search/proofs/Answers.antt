@@ -7,8 +7,10 @@ use native.Mathlib.Omega.{arith}
 use lib.ListN.{length, take, length-take}
 use lib.Seq.{take-all}
 use Rattle.prefix.specs.Bits.{Bits, bits}
+use Rattle.prefix.specs.Addresses.{ipv4Bits}
 use Rattle.prefix.specs.declared.Address.{Address}
 use Rattle.prefix.proofs.BitLaws.{length-bits}
+use Rattle.prefix.proofs.AddressLaws.{length-ipv4}
 use Rattle.model.specs.Routes.{Route, match}
 use Rattle.model.specs.Model.{newLength}
 use Rattle.model.specs.Nodes.{examined}
@@ -23,10 +25,10 @@ use Rattle.nodes.specs.Headers.{HeaderRead}
 use Rattle.nodes.specs.declared.Shape.{Shape}
 use Rattle.nodes.specs.declared.Shape.the-variants.{Broken}
 use Rattle.nodes.proofs.Coding.{numbered-node, none-numbered}
-use Rattle.table.specs.Tables.{ipv4Bits, routes, SoundTable}
+use Rattle.table.specs.Tables.{routes, SoundTable}
 use Rattle.table.specs.Stops.{Stopped, stopOf}
 use Rattle.table.specs.declared.Stop.{Stop}
-use Rattle.table.proofs.Reading.{length-ipv4, own-length, mark-hop}
+use Rattle.table.proofs.Reading.{own-length, mark-hop}
 use Rattle.table.proofs.Shapes.{shape-broken}
 use Rattle.search.specs.Matches.{foundFor, Matched}
 use Rattle.search.specs.Looks.{foundAt, Length, Answered}

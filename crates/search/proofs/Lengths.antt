@@ -11,7 +11,7 @@ use mir.Syntax.{w32}
 use mir.Val.{Fits}
 use Rattle.prefix.specs.Bits.{Bits, bits}
 use Rattle.prefix.specs.Prefix.{common}
-use Rattle.prefix.specs.Addresses.{addressBits}
+use Rattle.prefix.specs.Addresses.{addressBits, ipv4Bits}
 use Rattle.prefix.specs.declared.Address.{Address}
 use Rattle.prefix.proofs.Common.{common-sym, common-le}
 use Rattle.prefix.proofs.AddressLaws.{length-address, common-32}
@@ -19,7 +19,6 @@ use Rattle.trie.specs.Trie.{Kid, Trie}
 use Rattle.trie.specs.Walk.{lengthAt, lengthFrom, taken, insideAt}
 use Rattle.nodes.specs.Layout.{nodeWord, word, nodesOf, trieOf, numbered}
 use Rattle.nodes.proofs.Coding.{numbered-node, none-numbered}
-use Rattle.table.specs.Tables.{ipv4Bits}
 use Rattle.table.proofs.Reading.{own-length, node-bits}
 use Rattle.search.specs.Looks.{lengthBelow, Length}
 

@@ -10,7 +10,7 @@ use lib.Dec.{eqb, eqb·suc-zero}
 use borrow.Author.Tests.{eq-eqb, ne-eqb}
 use Rattle.prefix.specs.Bits.{Bits, bits}
 use Rattle.prefix.specs.Prefix.{contains}
-use Rattle.prefix.specs.Addresses.{addressBits}
+use Rattle.prefix.specs.Addresses.{addressBits, ipv4Bits}
 use Rattle.prefix.specs.declared.Address.{Address}
 use Rattle.prefix.proofs.Order.{⊑-length}
 use Rattle.prefix.proofs.Tests.{⊑-not, contains-of-take}
@@ -20,7 +20,7 @@ use Rattle.trie.specs.Walk.{taken, insideAt, insideBeyond, insideLast, insideFr
 use Rattle.nodes.specs.Layout.{nodeWord, cellWord, word, nodesOf, trieOf, numbered}
 use Rattle.nodes.proofs.Coding.{numbered-node, none-numbered, cell-side}
 use Rattle.nodes.proofs.Spelling.{child-word}
-use Rattle.table.specs.Tables.{ipv4Bits, SoundTable}
+use Rattle.table.specs.Tables.{SoundTable}
 use Rattle.table.specs.Stops.{stopOf}
 use Rattle.table.specs.declared.Stop.{Stop}
 use Rattle.table.proofs.Reading.{length-sought, own-length, node-bits}

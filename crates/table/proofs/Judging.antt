@@ -14,7 +14,7 @@ use Rattle.prefix.specs.Prefix.{contains, Below}
 use Rattle.prefix.specs.Addresses.{addressBits}
 use Rattle.prefix.specs.declared.Address.{Address}
 use Rattle.prefix.proofs.Booleans.{clash}
-use Rattle.prefix.proofs.BitLaws.{digit-one}
+use Rattle.prefix.proofs.BitLaws.{digit-one, bit-digit, bit-small}
 use Rattle.prefix.proofs.Order.{below-⊑, below-<}
 use Rattle.prefix.proofs.Tests.{contains-⊑, not-⊑, contains-of-take}
 use Rattle.prefix.proofs.AddressLaws.{length-address}
@@ -25,7 +25,7 @@ use Rattle.nodes.proofs.Coding.{numbered-some, numbered-node, none-numbered, ce
 use Rattle.nodes.proofs.Spelling.{up-word, child-word}
 use Rattle.table.specs.Tables.{SoundTable}
 use Rattle.table.specs.Checks.{Verdict, GoesOn, CellFine, HasCell}
-use Rattle.table.proofs.Reading.{bit-digit, bit-small, own-length, node-bits}
+use Rattle.table.proofs.Reading.{own-length, node-bits}
 
 -- ---- an answer that does not depend on what was asked
 

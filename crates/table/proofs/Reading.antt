@@ -1,7 +1,7 @@
 -- What the descent reads at a node, as the trie's: whether it contains the bits, what is below it, and whether it is a route.
 -- Assumes nothing.
-use mathlib.Core.Path.{_≡_, refl, sym, ap, _∙_}
-use mathlib.Core.Bool.{Bool, true, false}
+use mathlib.Core.Path.{_≡_, sym, ap, _∙_}
+use mathlib.Core.Bool.{Bool, false}
 use mathlib.Core.List.{List}
 use Prim.Native.Nat.{ℕ, _+_, _-_, _*_, _≤_, _<_}
 use native.Mathlib.Omega.{arith}
@@ -10,34 +10,23 @@ use lib.ListN.{length, take, getD}
 use lib.Seq.{length-take-le, getD-take, take-all}
 use Rattle.prefix.specs.Bits.{Bits, bits, one?, digit}
 use Rattle.prefix.specs.Prefix.{contains, prefixOf}
-use Rattle.prefix.specs.Addresses.{addressBits}
+use Rattle.prefix.specs.Addresses.{addressBits, ipv4Bits}
 use Rattle.prefix.specs.declared.Address.{Address}
-use Rattle.prefix.proofs.BitLaws.{length-bits}
+use Rattle.prefix.proofs.BitLaws.{length-bits, digit-below, bit-digit}
 use Rattle.prefix.proofs.Tests.{contains-of-take}
-use Rattle.prefix.proofs.AddressLaws.{length-address, take-32, prefix-32}
+use Rattle.prefix.proofs.AddressLaws.{length-address, take-32, prefix-32, length-ipv4}
 use Rattle.trie.specs.Trie.{Cell, Kid}
 use Rattle.trie.specs.Walk.{follow, better}
 use Rattle.trie.proofs.Walking.{follow-bit, follow-none, long-out}
 use Rattle.nodes.specs.Layout.{nodeWord, cellWord, word, trieOf, numbered}
-use Rattle.nodes.proofs.Coding.{digit-below, none-numbered, numbered-node, cell-side}
+use Rattle.nodes.proofs.Coding.{none-numbered, numbered-node, cell-side}
 use Rattle.nodes.proofs.Spelling.{prefix-words, hop-word, child-word}
-use Rattle.table.specs.Tables.{ipv4Bits}
 use Rattle.table.specs.Turns.{Tested, Chosen}
 
 -- ---- the bits that are looked for
 
-pub length-ipv4 : (a : Address) → length (ipv4Bits a) ≡ 32
-length-ipv4 a = length-take-le 32 (addressBits a) (omega (arith, length-address a))
-
 pub length-sought : (a : Address) (n : ℕ) → n ≤ 32 → length (take n (ipv4Bits a)) ≡ n
 length-sought a n h = length-take-le n (ipv4Bits a) (omega (arith, length-ipv4 a))
-
-pub bit-digit : (b : Bool) → one? (digit b) ≡ b
-bit-digit false = refl
-bit-digit true = refl
-
-pub bit-small : (l : Bits) (i x : ℕ) → x ≡ digit (getD l i false) → x < 2
-bit-small l i x e = omega (arith, digit-below (getD l i false))
 
 -- ---- a node's own prefix
 

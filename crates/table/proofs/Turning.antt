@@ -9,6 +9,7 @@ use native.Mathlib.Omega.{arith}
 use lib.ListN.{length, take}
 use Rattle.prefix.specs.Bits.{Bits}
 use Rattle.prefix.specs.Prefix.{contains}
+use Rattle.prefix.specs.Addresses.{ipv4Bits}
 use Rattle.prefix.specs.declared.Address.{Address}
 use Rattle.trie.specs.Trie.{Dense}
 use Rattle.trie.specs.Walk.{follow}
@@ -16,7 +17,7 @@ use Rattle.trie.proofs.Walking.{Walking, walking-start, walking-off, walking-pa
 use Rattle.nodes.specs.Layout.{word, cellWord, nodesOf, trieOf, numbered}
 use Rattle.nodes.proofs.Coding.{numbered-some, numbered-node, none-numbered, cell-root}
 use Rattle.nodes.proofs.Spelling.{child-word}
-use Rattle.table.specs.Tables.{ipv4Bits, SoundTable}
+use Rattle.table.specs.Tables.{SoundTable}
 use Rattle.table.specs.Stops.{Stopped}
 use Rattle.table.specs.Turns.{Going, Onward, Turned, Tested, Chosen, offOf}
 use Rattle.table.specs.declared.Walk.{Walk}

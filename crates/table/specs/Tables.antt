@@ -5,10 +5,7 @@ use mathlib.Core.Logic.{_↔_}
 use mathlib.Core.List.{List, []}
 use mathlib.Core.Option.{some}
 use Prim.Native.Nat.{ℕ, _<_}
-use lib.ListN.{length, take, drop}
-use Rattle.prefix.specs.Bits.{Bits}
-use Rattle.prefix.specs.Addresses.{addressBits}
-use Rattle.prefix.specs.declared.Address.{Address}
+use lib.ListN.{length, drop}
 use Rattle.sizes.specs.Sizes.{tableNeed, setupFor}
 use Rattle.sizes.specs.declared.Setup.{Setup}
 use Rattle.sizes.specs.declared.Setup.the-variants.{Done}
@@ -17,10 +14,6 @@ use Rattle.model.specs.Demands.{Hop}
 use Rattle.trie.specs.Trie.{Sound, Branchy, Dense}
 use Rattle.trie.specs.Routes.{routesOf}
 use Rattle.nodes.specs.Layout.{limitOf, nodesOf, routeCount, trieOf, Shaped, Plain}
-
--- the IPv4 address that an address value stands for
-abbrev pub ipv4Bits : Address → Bits
-ipv4Bits a = take 32 (addressBits a)
 
 -- the routes of a store, node by node
 unfoldable pub routes : List ℕ → Table

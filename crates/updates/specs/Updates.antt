@@ -8,7 +8,8 @@ use lib.Dec.{ltb, eqb}
 use Rattle.prefix.specs.Bits.{Bits}
 use Rattle.model.specs.Routes as model
 use Rattle.model.specs.Model.{refusal, tooLong, badHop, highestHop}
-use Rattle.table.specs.Tables.{ipv4Bits, routes, SoundTable}
+use Rattle.prefix.specs.Addresses.{ipv4Bits}
+use Rattle.table.specs.Tables.{routes, SoundTable}
 use Rattle.updates.specs.declared.Action.{Action}
 use Rattle.updates.specs.declared.Action.the-variants.{Announce, Withdraw}
 use Rattle.updates.specs.declared.Update.{Update}

@@ -19,7 +19,8 @@ use Rattle.nodes.specs.declared.Header.{Header}
 use Rattle.nodes.specs.declared.Shape.{Shape}
 use Rattle.nodes.specs.declared.Shape.the-variants.{Fits, Broken}
 use Rattle.nodes.proofs.Coding.{numbered-node, none-numbered}
-use Rattle.table.specs.Tables.{ipv4Bits, routes, SoundTable}
+use Rattle.prefix.specs.Addresses.{ipv4Bits}
+use Rattle.table.specs.Tables.{routes, SoundTable}
 use Rattle.table.specs.Stops.{Stopped}
 use Rattle.table.specs.declared.Stop.{Stop}
 use Rattle.table.proofs.Reading.{length-sought, own-length}

@@ -4,13 +4,14 @@ use mathlib.Core.List.{List, [], _∷_, List·Memᴰ·not-nil}
 use Prim.Native.Nat.{ℕ, _≤_, _<_}
 use native.Mathlib.Omega.{arith}
 use lib.ListN.{length}
+use Rattle.prefix.specs.Addresses.{ipv4Bits}
 use Rattle.prefix.specs.declared.Address.{Address}
 use Rattle.model.specs.Lists.{_∈_}
 use Rattle.model.specs.Routes.{Route, Table}
 use Rattle.trie.proofs.Holding.{held-in}
 use Rattle.nodes.specs.Layout.{nodeWord, word, nodesOf, trieOf}
 use Rattle.nodes.specs.declared.Header.{Header}
-use Rattle.table.specs.Tables.{ipv4Bits, routes}
+use Rattle.table.specs.Tables.{routes}
 use Rattle.table.specs.Stops.{Stopped}
 use Rattle.table.specs.declared.Stop.{Stop}
 use Rattle.verdicts.specs.Verdicts.{verdictNumber, Answered, NodeAt}

@@ -7,7 +7,8 @@ use Rattle.prefix.specs.declared.Address.{Address}
 use Rattle.model.specs.Routes as model
 use Rattle.nodes.specs.Layout.{nodeWord, word, trieOf}
 use Rattle.nodes.specs.declared.Header.{Header}
-use Rattle.table.specs.Tables.{ipv4Bits, SoundTable}
+use Rattle.prefix.specs.Addresses.{ipv4Bits}
+use Rattle.table.specs.Tables.{SoundTable}
 use Rattle.verdicts.specs.Verdicts.{Late, TableAfter, NodeAt}
 use Rattle.verdicts.specs.declared.Verdict.{Verdict}
 use Rattle.verdicts.specs.declared.Verdict.the-variants.{Done}

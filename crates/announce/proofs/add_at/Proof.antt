@@ -1,5 +1,5 @@
 -- `announce::add_at` meets its contract. Assumes nothing.
-use Rattle.table.proofs.Reading.{bit-small}
+use Rattle.prefix.proofs.BitLaws.{bit-small}
 use Rattle.announce.proofs.Announcements.{is-meeting, long-node, above-added}
 use borrow.Author.Needs.{needs}
 use Rattle.announce.proofs.add_at.Statement.{statement}

@@ -1,6 +1,6 @@
 -- `announce::add_beside` meets its contract. Assumes nothing.
 use Rattle.announce.proofs.Announcements.{bit-most, fork-added}
-use Rattle.table.proofs.Reading.{bit-small}
+use Rattle.prefix.proofs.BitLaws.{bit-small}
 use borrow.Author.Needs.{needs}
 use Rattle.announce.proofs.add_beside.Statement.{statement}
 use Rattle.announce.proofs.add_beside.Tie as tie

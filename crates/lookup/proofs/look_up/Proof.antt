@@ -1,5 +1,5 @@
 -- `lookup::look_up` meets its contract. Assumes nothing.
-use Rattle.cache.proofs.EntryChecks.{header-shaped, header-entries}
+use Rattle.slots.proofs.HeaderLaws.{header-shaped, header-entries}
 use Rattle.lookup.proofs.Looking.{broken, header-limit, hit-slot, looked-hit, looked-miss}
 use borrow.Author.Needs.{needs}
 use Rattle.lookup.proofs.look_up.Statement.{statement}

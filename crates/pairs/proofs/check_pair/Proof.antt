@@ -1,6 +1,6 @@
 -- `pairs::check_pair` meets its contract. Assumes nothing.
 use borrow.Author.Needs.{needs}
-use Rattle.cache.proofs.EntryChecks.{header-entries}
+use Rattle.slots.proofs.HeaderLaws.{header-entries}
 use Rattle.pairs.proofs.CheckLaws.{table-wrong, table-sound, cache-wrong, cache-sound, pair-broken}
 use Rattle.pairs.proofs.check_pair.Statement.{statement}
 use Rattle.pairs.proofs.check_pair.Tie as tie

@@ -1,5 +1,5 @@
 -- `prefix::bit_at_high` meets its contract. Assumes nothing.
-use mathlib.Core.Path.{_≡_, sym, ap, _∙_}
+use mathlib.Core.Path.{sym, ap, _∙_}
 use native.Mathlib.Omega.{arith}
 use Rattle.prefix.specs.Bits.{digit}
 use Rattle.prefix.proofs.AddressLaws.{at-high}

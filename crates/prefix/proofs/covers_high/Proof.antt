@@ -1,5 +1,5 @@
 -- `prefix::covers_high` meets its contract. Assumes nothing.
-use mathlib.Core.Path.{_≡_, sym, ap, _∙_}
+use mathlib.Core.Path.{sym, ap, _∙_}
 use lib.Dec.{leb}
 use Rattle.prefix.proofs.AddressLaws.{contains-high}
 use borrow.Author.Needs.{needs}

@@ -1,5 +1,5 @@
 -- `prefix::half_bit` meets its contract. Assumes nothing.
-use mathlib.Core.Path.{_≡_, sym, ap, _∙_}
+use mathlib.Core.Path.{sym, ap, _∙_}
 use Prim.Native.Nat.{_-_, _/_, _^_}
 use native.Mathlib.Omega.{arith}
 use Rattle.prefix.specs.Bits.{digit}

@@ -1,5 +1,5 @@
 -- `prefix::half_common` meets its contract. Assumes nothing.
-use mathlib.Core.Path.{_≡_, sym, ap, _∙_}
+use mathlib.Core.Path.{sym}
 use Rattle.prefix.proofs.BitLaws.{common-word}
 use Rattle.prefix.proofs.half_common.Statement.{statement}
 use Rattle.prefix.proofs.half_common.Tie as tie

@@ -1,6 +1,5 @@
 -- `prefix::half_trim` meets its contract. Assumes nothing.
-use mathlib.Core.Path.{_≡_, sym, ap, _∙_}
-use Prim.Native.Nat.{_-_, _/_, _^_}
+use Prim.Native.Nat.{_-_, _/_}
 use native.Mathlib.Omega.{arith}
 use Rattle.prefix.proofs.BitLaws.{trim-shifts}
 use borrow.Author.Needs.{needs}

@@ -1,5 +1,5 @@
 -- `prefix::to_ipv4` meets its contract. Assumes nothing.
-use mathlib.Core.Path.{_≡_, sym, ap, _∙_}
+use mathlib.Core.Path.{sym}
 use Rattle.prefix.proofs.AddressLaws.{first-word}
 use borrow.Author.Needs.{needs}
 use Rattle.prefix.proofs.to_ipv4.Statement.{statement}

@@ -1,5 +1,5 @@
 -- `refresh::update_pair` meets its contract. Assumes nothing.
-use Rattle.cache.proofs.EntryChecks.{header-shaped, header-entries}
+use Rattle.slots.proofs.HeaderLaws.{header-shaped, header-entries}
 use Rattle.refresh.proofs.UpdateLaws.{no-cache, table-refused, all-done, numbered-broken, numbered-refused, numbered-done}
 use borrow.Author.Needs.{needs}
 use Rattle.refresh.proofs.update_pair.Statement.{statement}

@@ -1,7 +1,8 @@
 -- `table::below` meets its contract. Assumes nothing.
 use Rattle.prefix.specs.Addresses.{addressBits}
+use Rattle.prefix.proofs.BitLaws.{bit-small}
 use native.Mathlib.Omega.{arith}
-use Rattle.table.proofs.Reading.{bit-small, below-bit, below-none}
+use Rattle.table.proofs.Reading.{below-bit, below-none}
 use borrow.Author.Needs.{needs}
 use Rattle.table.proofs.below.Statement.{statement}
 use Rattle.table.proofs.below.Tie as tie

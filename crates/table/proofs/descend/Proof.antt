@@ -1,7 +1,7 @@
 -- `table::descend` meets its contract. Assumes nothing.
 use borrow.Author.Needs.{needs}
 use Prim.Native.Nat.{_+_, _-_}
-use Rattle.table.specs.Tables.{ipv4Bits}
+use Rattle.prefix.specs.Addresses.{ipv4Bits}
 use Rattle.table.specs.Turns.{Going}
 use Rattle.table.proofs.Turning.{start, turned-less, turned-going, turned-over}
 use Rattle.table.proofs.descend.Statement.{statement}

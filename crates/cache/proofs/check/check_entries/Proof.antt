@@ -1,7 +1,8 @@
 -- `cache::check::check_entries` meets its contract. Assumes nothing.
 use borrow.Author.Needs.{needs}
 use Prim.Native.Nat.{_+_, _-_}
-use Rattle.cache.proofs.EntryChecks.{Passed, check-broken, header-shaped, header-entries, check-root, passed-none, check-slot, next-fits, passed-on, check-all}
+use Rattle.slots.proofs.HeaderLaws.{header-shaped, header-entries}
+use Rattle.cache.proofs.EntryChecks.{Passed, check-broken, check-root, passed-none, check-slot, next-fits, passed-on, check-all}
 use Rattle.cache.proofs.check.check_entries.Statement.{statement}
 use Rattle.cache.proofs.check.check_entries.Tie as tie
 

@@ -1,6 +1,6 @@
 -- `entries::find::walk` meets its contract. Assumes nothing.
 use borrow.Author.Needs.{needs}
-use Rattle.entries.specs.Caches.{ipv4Bits}
+use Rattle.prefix.specs.Addresses.{ipv4Bits}
 use Rattle.entries.specs.Walks.{Going}
 use Rattle.entries.proofs.WalkLaws.{start, walk-out, walk-over, walk-further}
 use Rattle.entries.proofs.find.walk.Statement.{statement}
