@@ -3,11 +3,12 @@ use Prim.Native.Nat.{ℕ, zero, suc, _+_, _*_, _/_, _%_, _^_, _≤_, _<_}
 use native.Mathlib.Nat.{pow-suc}
 use native.Mathlib.Omega.{arith}
 use mathlib.Core.Path.{_≡_, _∙_}
-use mathlib.Core.List.{[], _∷_, _++_}
+use mathlib.Core.List.{[], _∷_, _++_, append-assoc}
 use lib.ListN.{length, length-append}
 use lib.Dec.{ltb}
 use borrow.Author.Tests.{lt-ltb, le-ltb}
 use Rattle.answers.specs.Answers.{decimalIn, decimal, dotted, answerOf, room}
+use Rattle.answers.specs.Writing.{three}
 use Rattle.answers.specs.declared.Said.{Said}
 use Rattle.answers.specs.declared.Said.the-variants.{Done, Hit, Miss, Drop, Refused, Bad, Tallies}
 use Rattle.answers.proofs.Booleans.{by-cases}
@@ -32,6 +33,29 @@ decimal-more n h k = last-digit ∙ rw (more-places 8 (n / 10) (omega arith))
   where
     last-digit : decimalIn 10 n ≡ decimalIn 9 (n / 10) ++ ((48 + n % 10) ∷ [])
     last-digit = unfold decimalIn in rw (le-ltb n 10 h)
+
+pub decimal-two : (n : ℕ) → 10 ≤ n → n < 100 → decimal n ≡ (48 + n / 10) ∷ (48 + n % 10) ∷ []
+decimal-two n h k = rw (decimal-more n h (omega arith), decimal-digit (n / 10) (omega arith))
+
+pub decimal-three : (n : ℕ) → 100 ≤ n → n < 1000 → decimal n ≡ three n
+unfolding three
+decimal-three n h k =
+    let first : n / 10 / 10 ≡ n / 100 % 10 = omega arith in
+    rw (decimal-more n (omega arith) (omega arith), decimal-two (n / 10) (omega arith) (omega arith), first)
+
+-- the last three digits, and those before them
+pub decimal-thousands : (n : ℕ) → 1000 ≤ n → n < 2 ^ 32 → decimal n ≡ decimal (n / 1000) ++ three (n % 1000)
+unfolding three
+decimal-thousands n h k =
+    let before : n / 10 / 10 / 10 ≡ n / 1000 = omega arith in
+    let first : n / 10 / 10 % 10 ≡ n % 1000 / 100 % 10 = omega arith in
+    let second : n / 10 % 10 ≡ n % 1000 / 10 % 10 = omega arith in
+    let third : n % 10 ≡ n % 1000 % 10 = omega arith in
+    let e = decimal-more n (omega arith) k in
+    let f = decimal-more (n / 10) (omega arith) (omega arith) in
+    let g = decimal-more (n / 10 / 10) (omega arith) (omega arith) in
+    let digits = append-assoc (decimal (n / 10 / 10 / 10) ++ ((48 + n / 10 / 10 % 10) ∷ [])) ((48 + n / 10 % 10) ∷ []) ((48 + n % 10) ∷ []) in
+    rw (e, f, g, digits, append-assoc, before, first, second, third)
 
 -- ---- how many digits
 

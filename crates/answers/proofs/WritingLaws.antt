@@ -1,5 +1,5 @@
 -- One law for each answer of the functions that write. Assumes nothing.
-use Prim.Native.Nat.{ℕ, _+_, _-_, _/_, _%_, _^_, _≤_, _<_}
+use Prim.Native.Nat.{ℕ, suc, _+_, _-_, _/_, _%_, _^_, _≤_, _<_}
 use native.Mathlib.Numerals.{add-one}
 use native.Mathlib.Omega.{arith}
 use mathlib.Core.Path.{_≡_, refl, ap, _∙_}
@@ -9,42 +9,112 @@ use lib.Seq.{sets, take-suc, length-take-le, take-all}
 use borrow.Author.Tests.{le-leb, lt-leb}
 use Rattle.answers.specs.Answers.{decimal, said, dotted, answerOf, room, Printed}
 use Rattle.answers.specs.Text.{text}
-use Rattle.answers.specs.Writing.{Written}
+use Rattle.answers.specs.Writing.{three, Written}
 use Rattle.answers.specs.declared.Said.{Said}
 use Rattle.answers.specs.declared.Said.the-variants.{Done, Hit, Miss, Drop, Refused, Bad, Tallies}
 use Rattle.answers.proofs.Storing.{sets-append}
-use Rattle.answers.proofs.DecimalLaws.{decimal-digit, decimal-more, ten-digits, three-digits}
+use Rattle.answers.proofs.DecimalLaws.{decimal-digit, decimal-two, decimal-three, decimal-thousands, ten-digits, three-digits}
+
+-- ---- one after the other
+
+pub wrote-both : {l m q : List ℕ} {at i r : ℕ} {x y : List ℕ} → Written l m at x i → Written m q i y r → Written l q at (x ++ y) r
+wrote-both {l} {m} {q} {at} {i} {r} {x} {y} v w = record {
+  stored = rw (w .stored, v .stored, v .ended, sets-append x l y at);
+  ended = rw (w .ended, v .ended, length-append) (omega arith);
+}
 
 -- ---- a number
 
+three-long : (n : ℕ) → length (three n) ≡ 3
+unfolding three
+three-long n = refl
+
+module _ (l : List ℕ) (at : ℕ) (room : at + 3 ≤ length l) (v : ℕ) where
+  pub room-in-second : at + 1 < length (set l at v)
+  room-in-second = rw (length-set l at v) (omega arith)
+
+  pub room-in-third : (u : ℕ) → at + 2 < length (set (set l at v) (at + 1) u)
+  room-in-third u = rw (length-set (set l at v) (at + 1) u, length-set l at v) (omega arith)
+
+pub wrote-three : (l : List ℕ) (at n : ℕ) → n < 1000 → Written l (set (set (set l at (48 + n / 100)) (at + 1) (48 + n / 10 % 10)) (at + 2) (48 + n % 10)) at (three n) (at + 3)
+unfolding three
+wrote-three l at n h =
+    let one : at + 1 ≡ suc at = omega arith in
+    let two : at + 2 ≡ suc (suc at) = omega arith in
+    let first : n / 100 % 10 ≡ n / 100 = omega arith in
+    record { stored = rw (one, two, first); ended = refl }
+
 module _ (l : List ℕ) (at n : ℕ) where
-  module _ (small : n < 10) where
-    pub room-for-digit : at + length (decimal n) ≤ length l → at < length l
-    room-for-digit h = let k : at + 1 ≤ length l = rw (decimal-digit n small) at h in omega arith
+  pub room-for-digit : n < 10 → at + length (decimal n) ≤ length l → at < length l
+  room-for-digit small h = let k : at + 1 ≤ length l = rw (decimal-digit n small) at h in omega arith
 
-    pub wrote-digit : Written l (set l at (48 + n)) at (decimal n) (at + 1)
-    wrote-digit = record { stored = rw (decimal-digit n small); ended = rw (decimal-digit n small) }
+  pub wrote-digit : n < 10 → Written l (set l at (48 + n)) at (decimal n) (at + 1)
+  wrote-digit small = record { stored = rw (decimal-digit n small); ended = rw (decimal-digit n small) }
 
-  module _ (large : 10 ≤ n) (fits : n < 2 ^ 32) where
-    more-digits : length (decimal n) ≡ length (decimal (n / 10)) + 1
-    more-digits = rw (decimal-more n large fits, length-append)
-
+  module _ (large : 10 ≤ n) (small : n < 100) where
     module _ (room : at + length (decimal n) ≤ length l) where
-      pub room-before : at + length (decimal (n / 10)) ≤ length l
-      room-before = omega (arith, more-digits)
+      two : at + 2 ≤ length l
+      two = rw (decimal-two n large small) at room
 
-      module _ (m : List ℕ) (last : ℕ) (w : Written l m at (decimal (n / 10)) last) (kept : length m ≡ length l) where
-        pub room-for-last : last < length m
-        room-for-last = omega (arith, more-digits, w .ended)
+      pub room-for-first : at < length l
+      room-for-first = omega (arith, two)
 
-        pub next-fits : length l < 2 ^ 64 → last + 1 < 2 ^ 64
-        next-fits h = omega (arith, room-for-last)
+      pub room-for-second : (v : ℕ) → at + 1 < length (set l at v)
+      room-for-second v = rw (length-set l at v) (omega (arith, two))
 
-    pub wrote-more : (m : List ℕ) (last : ℕ) → Written l m at (decimal (n / 10)) last → Written l (set m last (48 + n % 10)) at (decimal n) (last + 1)
-    wrote-more m last w = record {
-      stored = rw (w .stored, w .ended, decimal-more n large fits, sets-append);
-      ended = rw (w .ended) (omega (arith, more-digits));
-    }
+    pub wrote-two : Written l (set (set l at (48 + n / 10)) (at + 1) (48 + n % 10)) at (decimal n) (at + 2)
+    wrote-two =
+        let one : at + 1 ≡ suc at = omega arith in
+        record { stored = rw (decimal-two n large small, one); ended = rw (decimal-two n large small) }
+
+  module _ (large : 100 ≤ n) (small : n < 1000) where
+    pub room-for-three : at + length (decimal n) ≤ length l → at + 3 ≤ length l
+    room-for-three h = rw (decimal-three n large small, three-long n) at h
+
+    pub wrote-small : (q : List ℕ) (r : ℕ) → Written l q at (three n) r → Written l q at (decimal n) r
+    wrote-small q r w = rw (decimal-three n large small) w
+
+-- ---- a number of more digits
+
+module _ (n : ℕ) (large : 1000 ≤ n) (fits : n < 2 ^ 32) where
+  three-more : length (decimal n) ≡ length (decimal (n / 1000)) + 3
+  three-more = rw (decimal-thousands n large fits, length-append, three-long)
+
+  pub wrote-thousands : {l m q : List ℕ} {at i r : ℕ} → Written l m at (decimal (n / 1000)) i → Written m q i (three (n % 1000)) r → Written l q at (decimal n) r
+  wrote-thousands v w = rw (decimal-thousands n large fits) (wrote-both v w)
+
+  module _ (l : List ℕ) (at : ℕ) (room : at + length (decimal n) ≤ length l) where
+    pub room-before : at + length (decimal (n / 1000)) ≤ length l
+    room-before = omega (arith, three-more)
+
+    pub room-after : (m : List ℕ) (i : ℕ) → Written l m at (decimal (n / 1000)) i → length m ≡ length l → i + 3 ≤ length m
+    room-after m i w kept = omega (arith, three-more, w .ended)
+
+-- the same twice
+module _ (n : ℕ) (large : 1000000 ≤ n) (fits : n < 2 ^ 32) where
+  pub millions : n / 1000 / 1000 ≡ n / 1000000
+  millions = omega arith
+
+  module _ (l : List ℕ) (at : ℕ) (room : at + length (decimal n) ≤ length l) where
+    pub room-before-millions : at + length (decimal (n / 1000000)) ≤ length l
+    room-before-millions = rw millions at (room-before (n / 1000) (omega arith) (omega arith) l at (room-before n (omega arith) fits l at room))
+
+    module _ (m : List ℕ) (i : ℕ) (w : Written l m at (decimal (n / 1000000)) i) (kept : length m ≡ length l) where
+      before : Written l m at (decimal (n / 1000 / 1000)) i
+      before = rw millions w
+
+      pub room-after-millions : i + 3 ≤ length m
+      room-after-millions = room-after (n / 1000) (omega arith) (omega arith) l at (room-before n (omega arith) fits l at room) m i before kept
+
+      module _ (o : List ℕ) (j : ℕ) (v : Written m o i (three (n / 1000 % 1000)) j) where
+        thousands : Written l o at (decimal (n / 1000)) j
+        thousands = wrote-thousands (n / 1000) (omega arith) (omega arith) before v
+
+        pub room-after-thousands : length o ≡ length m → j + 3 ≤ length o
+        room-after-thousands same = room-after n (omega arith) fits l at room o j thousands (same ∙ kept)
+
+        pub wrote-millions : (q : List ℕ) (r : ℕ) → Written o q j (three (n % 1000)) r → Written l q at (decimal n) r
+        wrote-millions q r u = wrote-thousands n (omega arith) fits thousands u
 
 -- ---- a word: i of its bytes are stored
 
@@ -70,14 +140,6 @@ module _ (l w : List ℕ) (at : ℕ) where
         let e : i ≡ length w = omega (arith, h .inside) in
         record { stored = h .stored ∙ ap (sets l at) (take-all i w k); ended = rw e }
 
--- ---- one after the other
-
-pub wrote-both : {l m q : List ℕ} {at i r : ℕ} {x y : List ℕ} → Written l m at x i → Written m q i y r → Written l q at (x ++ y) r
-wrote-both {l} {m} {q} {at} {i} {r} {x} {y} v w = record {
-  stored = rw (w .stored, v .stored, v .ended, sets-append x l y at);
-  ended = rw (w .ended, v .ended, length-append) (omega arith);
-}
-
 -- ---- a word and a number
 
 module _ (l m w : List ℕ) (at i n : ℕ) (v : Written l m at w i) where
@@ -89,8 +151,12 @@ module _ (l m w : List ℕ) (at i n : ℕ) (v : Written l m at w i) where
 
 -- ---- an address
 
-pub octet-ends : (l m mark : List ℕ) (at n r : ℕ) → Written l m at (mark ++ decimal n) r → length mark ≡ 1 → n ≤ 255 → r ≤ at + 4
-octet-ends l m mark at n r w one small = omega (arith, three-digits n (omega arith), w .ended, length-append mark (decimal n))
+module _ (l m mark : List ℕ) (at i n : ℕ) (v : Written l m at mark i) (one : length mark ≡ 1) where
+  pub room-for-octet : length m ≡ length l → at + 11 ≤ length l → i + length (decimal n) ≤ length m
+  room-for-octet k h = omega (arith, ten-digits n, v .ended)
+
+  pub octet-ends : (q : List ℕ) (r : ℕ) → Written m q i (decimal n) r → n ≤ 255 → r ≤ at + 4
+  octet-ends q r u small = omega (arith, three-digits n (omega arith), v .ended, u .ended)
 
 pub wrote-address :
     {l m₁ m₂ m₃ q : List ℕ} {at i j k r : ℕ} (a : ℕ)

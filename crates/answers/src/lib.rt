@@ -1,12 +1,12 @@
 // The bytes of each line that is printed. Each function stores its bytes from a place of the lent buffer on, and answers the
 // place after them.
 ghost use mathlib.Core.Path.{_≡_};
-ghost use Prim.Native.Nat.{_+_, _≤_};
+ghost use Prim.Native.Nat.{_+_, _≤_, _<_};
 ghost use mathlib.Core.List.{_++_};
 ghost use lib.ListN.{length};
 ghost use Rattle.answers.specs.Text.{text};
 ghost use Rattle.answers.specs.Answers.{decimal, dotted, answerOf, room, Printed};
-ghost use Rattle.answers.specs.Writing.{Written};
+ghost use Rattle.answers.specs.Writing.{three, Written};
 
 const ROOM: usize = 64;
 
@@ -27,19 +27,62 @@ pub enum Said {
     Tallies(u32, u32, u32),
 }
 
-// A number in decimal, with no leading zeros.
-fn put_number(out: &mut [u8], at: usize, n: u32) -> usize
-    requires { ⌜ at + length (decimal n) ≤ length (now out) ⌝ }
+// ---- numbers, three digits at a time
+
+// The last three digits of a number, zeros among them.
+fn put_three(out: &mut [u8], at: usize, n: u32) -> usize
+    requires { ⌜ (at + 3 ≤ length (now out)) × (n < 1000) ⌝ }
+    ensures { λ r. ⌜ Written (now (out .entry)) (now (out .exit)) at (three n) r ⌝ }
+{
+    out[at] = b'0' + (n / 100) as u8;
+    out[at + 1] = b'0' + (n / 10 % 10) as u8;
+    out[at + 2] = b'0' + (n % 10) as u8;
+    at + 3
+}
+
+// A number of at most three digits, with no leading zeros.
+fn put_small(out: &mut [u8], at: usize, n: u32) -> usize
+    requires { ⌜ (at + length (decimal n) ≤ length (now out)) × (n < 1000) ⌝ }
     ensures { λ r. ⌜ Written (now (out .entry)) (now (out .exit)) at (decimal n) r ⌝ }
 {
     if n < 10 {
         out[at] = b'0' + n as u8;
         return at + 1;
     }
-    let last = put_number(out, at, n / 10);
-    out[last] = b'0' + (n % 10) as u8;
-    last + 1
+    if n < 100 {
+        out[at] = b'0' + (n / 10) as u8;
+        out[at + 1] = b'0' + (n % 10) as u8;
+        return at + 2;
+    }
+    put_three(out, at, n)
 }
+
+// A number of at most six digits.
+fn put_middle(out: &mut [u8], at: usize, n: u32) -> usize
+    requires { ⌜ (at + length (decimal n) ≤ length (now out)) × (n < 1000000) ⌝ }
+    ensures { λ r. ⌜ Written (now (out .entry)) (now (out .exit)) at (decimal n) r ⌝ }
+{
+    if n < 1_000 {
+        return put_small(out, at, n);
+    }
+    let i = put_small(out, at, n / 1_000);
+    put_three(out, i, n % 1_000)
+}
+
+// A number in decimal, with no leading zeros.
+fn put_number(out: &mut [u8], at: usize, n: u32) -> usize
+    requires { ⌜ at + length (decimal n) ≤ length (now out) ⌝ }
+    ensures { λ r. ⌜ Written (now (out .entry)) (now (out .exit)) at (decimal n) r ⌝ }
+{
+    if n < 1_000_000 {
+        return put_middle(out, at, n);
+    }
+    let i = put_middle(out, at, n / 1_000_000);
+    let j = put_three(out, i, n / 1_000 % 1_000);
+    put_three(out, j, n % 1_000)
+}
+
+// ---- words, and numbers after them
 
 // The bytes of a word.
 fn put_word(out: &mut [u8], at: usize, word: &[u8]) -> usize
@@ -70,7 +113,8 @@ fn put_octet(out: &mut [u8], at: usize, mark: &[u8], octet: u32) -> usize
     ensures { λ r. ⌜ Written (now (out .entry)) (now (out .exit)) at (now (mark .entry) ++ decimal octet) r ⌝ }
     ensures { λ r. ⌜ r ≤ at + 4 ⌝ }
 {
-    put(out, at, mark, octet)
+    let i = put_word(out, at, mark);
+    put_small(out, i, octet)
 }
 
 // A space and an address.
