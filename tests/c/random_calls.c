@@ -364,7 +364,7 @@ static void play(uint64_t seed)
 static bool report(uint64_t rounds)
 {
     bool rare = false;
-    printf("random_calls: %" PRIu64 " calls in %" PRIu64 " rounds\n", calls_made, rounds);
+    printf("%" PRIu64 " calls in %" PRIu64 " rounds\n", calls_made, rounds);
     for (int i = 0; i < EVENTS; i++) {
         if (events[i].name == NULL)
             continue;
