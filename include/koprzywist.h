@@ -142,8 +142,8 @@ uint32_t kop_cache_setup(uint32_t *cache, size_t cache_words, uint32_t limit);
  *
  * A miss stores the shortest prefix that contains the address, is no shorter than its match, contains no longer route
  * and overlaps no entry; if the cache is full, the least recently used entry leaves. A hit makes its entry the most
- * recently used. A drop stores nothing. At most 33 nodes of the cache, and on a miss or drop as many of the table, are
- * read, whatever the number of routes and entries.
+ * recently used. A drop stores nothing. A hit is one walk of the cache, a drop one more of the table, a miss one more of
+ * the cache again; no walk is longer than 33 nodes, whatever the number of routes and entries.
  *
  * table, table_words  the table store and its size in words; read only
  * cache, cache_words  the cache store and its size in words

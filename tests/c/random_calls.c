@@ -239,6 +239,7 @@ static void count_update(struct round *round, struct call call, const uint32_t a
 static void compare_contents(struct round *round)
 {
     struct pair *pair = &round->pair;
+    expect(round, kop_table_check(pair->table, pair->table_words) == 1, "the table is not sound");
     expect(round, read_table(pair->table, pair->table_words, &round->read), "the table's words make no sound table");
     expect(round, read_cache(pair->cache, pair->cache_words, &round->read), "the cache's words make no sound cache");
     expect(round, same_contents(&round->model, &round->read), "the stores do not hold the model's routes and entries");
