@@ -152,26 +152,22 @@ uint32_t answer_words(struct call call)
     return call.kind == CALL_LOOKUP ? 5 : 2;
 }
 
-void call_library(struct pair *pair, struct call call, struct outcome *outcome)
+uint32_t call_library(const struct pair *pair, struct kop_tallies *tallies, struct call call, uint32_t *answer)
 {
-    struct kop_tallies *tallies = &pair->tallies;
+    uint32_t *table = pair->table, *cache = pair->cache;
+    size_t table_words = pair->table_words, cache_words = pair->cache_words;
     if (call.kind == CALL_LOOKUP)
-        outcome->number = kop_lookup(pair->table, pair->table_words, pair->cache, pair->cache_words, tallies,
-                                     call.address, outcome->answer);
-    else if (call.kind == CALL_ANNOUNCE)
-        outcome->number = kop_announce(pair->table, pair->table_words, pair->cache, pair->cache_words, tallies,
-                                       call.address, call.length, call.hop, outcome->answer);
-    else
-        outcome->number = kop_withdraw(pair->table, pair->table_words, pair->cache, pair->cache_words, tallies,
-                                       call.address, call.length, outcome->answer);
+        return kop_lookup(table, table_words, cache, cache_words, tallies, call.address, answer);
+    if (call.kind == CALL_ANNOUNCE)
+        return kop_announce(table, table_words, cache, cache_words, tallies, call.address, call.length, call.hop, answer);
+    return kop_withdraw(table, table_words, cache, cache_words, tallies, call.address, call.length, answer);
 }
 
-void call_model(struct model *model, struct call call, struct outcome *outcome)
+uint32_t call_model(struct model *model, struct call call, uint32_t *answer)
 {
     if (call.kind == CALL_LOOKUP)
-        outcome->number = model_lookup(model, call.address, outcome->answer);
-    else if (call.kind == CALL_ANNOUNCE)
-        outcome->number = model_announce(model, call.address, call.length, call.hop, outcome->answer);
-    else
-        outcome->number = model_withdraw(model, call.address, call.length, outcome->answer);
+        return model_lookup(model, call.address, answer);
+    if (call.kind == CALL_ANNOUNCE)
+        return model_announce(model, call.address, call.length, call.hop, answer);
+    return model_withdraw(model, call.address, call.length, answer);
 }

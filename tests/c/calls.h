@@ -39,14 +39,14 @@ struct mix {
 struct mix roll_mix(struct dice *dice);
 struct call roll_call(struct dice *dice, struct world world, struct mix mix, const struct model *model);
 
-/* A call's number and answer words; what it has none of stays as it was. */
+/* A call's number and the words of its answer: five for a lookup, two for an update. */
 struct outcome {
     uint32_t number;
     uint32_t answer[5];
 };
 
 uint32_t answer_words(struct call call);
-void call_library(struct pair *pair, struct call call, struct outcome *outcome);
-void call_model(struct model *model, struct call call, struct outcome *outcome);
+uint32_t call_library(const struct pair *pair, struct kop_tallies *tallies, struct call call, uint32_t *answer);
+uint32_t call_model(struct model *model, struct call call, uint32_t *answer);
 
 #endif

@@ -277,8 +277,8 @@ static void one_call(struct round *round, struct mix mix)
     bool copied = roll_percent(&round->dice, 25);
     if (copied)
         copy_before(round);
-    call_library(&round->pair, call, &real);
-    call_model(&round->model, call, &right);
+    real.number = call_library(&round->pair, &round->pair.tallies, call, real.answer);
+    right.number = call_model(&round->model, call, right.answer);
     expect(round, real.number == right.number, "the number");
     expect(round, memcmp(real.answer, right.answer, sizeof real.answer) == 0, "the answer");
     compare_tallies(round);

@@ -160,10 +160,10 @@ static void make_sound(struct dice *dice, struct sound *sound)
     uint32_t calls = roll_below(dice, 80);
     for (uint32_t i = 0; i < calls; i++) {
         struct call call = roll_call(dice, sound->world, (struct mix){ 40, 10 }, &sound->model);
-        struct outcome outcome;
+        uint32_t answer[5];
         one_more_call();
-        call_library(&pair, call, &outcome);
-        call_model(&sound->model, call, &outcome);
+        call_library(&pair, &pair.tallies, call, answer);
+        call_model(&sound->model, call, answer);
         expect(kop_check(pair.table, pair.table_words, pair.cache, pair.cache_words) == 1,
                "the check denies a pair that only calls have touched");
         sound_checked++;
@@ -242,24 +242,15 @@ static void fenced_call(struct dice *dice, struct call call, struct outcome *out
     uint32_t *answer = lend(&answer_fence, words, roll_percent(dice, 70));
     void *tallies_words = lend(&tallies_fence, sizeof(struct kop_tallies) / sizeof(uint32_t), roll_percent(dice, 70));
     struct kop_tallies *tallies = tallies_words;
-    struct pair *pair = &lent.pair;
-    uint32_t number;
-    *tallies = pair->tallies;
-    if (call.kind == CALL_LOOKUP)
-        number = kop_lookup(pair->table, pair->table_words, pair->cache, pair->cache_words, tallies, call.address, answer);
-    else if (call.kind == CALL_ANNOUNCE)
-        number = kop_announce(pair->table, pair->table_words, pair->cache, pair->cache_words, tallies, call.address,
-                              call.length, call.hop, answer);
-    else
-        number = kop_withdraw(pair->table, pair->table_words, pair->cache, pair->cache_words, tallies, call.address,
-                              call.length, answer);
+    *tallies = lent.pair.tallies;
+    uint32_t number = call_library(&lent.pair, tallies, call, answer);
     one_more_call();
     expect_guards();
     if (number != 0)
         expect(all_zero(answer, words), "a refused call left an answer");
     if (number == 1 || number == 2)
-        expect(memcmp(tallies, &pair->tallies, sizeof *tallies) == 0, "a refused call changed the tallies");
-    pair->tallies = *tallies;
+        expect(memcmp(tallies, &lent.pair.tallies, sizeof *tallies) == 0, "a refused call changed the tallies");
+    lent.pair.tallies = *tallies;
     outcome->number = number;
     memcpy(outcome->answer, answer, words * sizeof *answer);
 }
@@ -286,7 +277,7 @@ static bool call_as_model(struct call call, struct outcome *right)
         return false;
     reading.route_limit = lent.pair.table[0];
     reading.entry_limit = lent.pair.cache[0];
-    call_model(&reading, call, right);
+    right->number = call_model(&reading, call, right->answer);
     return true;
 }
 
