@@ -1,6 +1,7 @@
 -- "Five numbers in one record that the caller keeps and lends": hits, misses (with a match), drops, evicted, removed by updates.
 -- "Tallies wrap at 2^32 as Counter32 of RFC 2578 does; the difference of two readings is taken the same way." Assumes nothing.
-use Prim.Native.Nat.{ℕ, _+_, _-_, _%_, _^_}
+use mathlib.Core.Path.{_≡_}
+use Prim.Native.Nat.{ℕ, _+_, _-_, _%_, _^_, _<_}
 use Rattle.tallies.specs.declared.Tallies.{Tallies}
 
 -- n more, and n less, modulo 2 ^ 32
@@ -39,3 +40,26 @@ difference now then = record {
 -- "entries held = misses - evicted - removed, modulo 2^32"
 abbrev pub heldSum : Tallies → ℕ
 heldSum t = minus (minus (t .misses) (t .evicted)) (t .removed)
+
+-- two records, tally by tally
+abbrev pub sum : Tallies → Tallies → Tallies
+sum t moved = record {
+  hits = plus (t .hits) (moved .hits);
+  misses = plus (t .misses) (moved .misses);
+  drops = plus (t .drops) (moved .drops);
+  evicted = plus (t .evicted) (moved .evicted);
+  removed = plus (t .removed) (moved .removed);
+}
+
+-- each is a number of 32 bits
+pub record InRange (t : Tallies) : Type 0 where
+  pub hits-fit : t .hits < 2 ^ 32
+  pub misses-fit : t .misses < 2 ^ 32
+  pub drops-fit : t .drops < 2 ^ 32
+  pub evicted-fit : t .evicted < 2 ^ 32
+  pub removed-fit : t .removed < 2 ^ 32
+
+-- "Five numbers in one record that the caller keeps and lends, and that a call updates there": what the call moved is added
+pub record Added (t t′ moved : Tallies) : Type 0 where
+  pub is-sum : t′ ≡ sum t moved
+  pub was-in-range : InRange t

@@ -1,8 +1,9 @@
-// The five tallies of a cache, by value: each call's count goes in and the next record comes out. They wrap at 2^32 as
+// The five tallies of a cache: counted by value, and added to the record that a caller lends. They wrap at 2^32 as
 // Counter32 of RFC 2578 does, so only the difference of two readings says how much happened between them.
 ghost use mathlib.Core.Path.{_≡_};
-ghost use Rattle.tallies.specs.Counting.{plus, minus, zeroTallies, afterHit, afterMiss, afterDrop, afterUpdate, difference, heldSum};
+ghost use Rattle.tallies.specs.Counting.{plus, minus, zeroTallies, afterHit, afterMiss, afterDrop, afterUpdate, difference, heldSum, sum, Added};
 
+#[repr(C)]
 pub struct Tallies {
     pub hits: u32,
     pub misses: u32,
@@ -92,4 +93,26 @@ pub fn held(t: Tallies) -> u32
     ensures { λ r. ⌜ r ≡ heldSum t ⌝ }
 {
     less(less(t.misses, t.evicted), t.removed)
+}
+
+// ---- the record lent
+
+// Two records, tally by tally.
+pub fn joined(t: Tallies, moved: Tallies) -> Tallies
+    ensures { λ r. ⌜ r ≡ sum t moved ⌝ }
+{
+    Tallies {
+        hits: more(t.hits, moved.hits),
+        misses: more(t.misses, moved.misses),
+        drops: more(t.drops, moved.drops),
+        evicted: more(t.evicted, moved.evicted),
+        removed: more(t.removed, moved.removed),
+    }
+}
+
+// What one call moved is added to the caller's record: of a hit, one.
+pub fn add(t: &mut Tallies, moved: Tallies)
+    ensures { λ _. ⌜ Added (now (t .entry)) (now (t .exit)) moved ⌝ }
+{
+    *t = joined(*t, moved);
 }
