@@ -3,3 +3,4 @@ pub mod NodeChecks
 pub mod SlotChecks
 pub mod RingChecks
 pub mod EntryChecks
+pub mod CallLaws

@@ -1,13 +1,12 @@
 // Thousands of hits, insertions and removals in bad orders on a cache of limit 40. After each the store is checked and its
 // whole order of use goes into a digest; at the end the order is printed. What it prints was worked out beside it by another
 // program, over plain lists.
-use entries::find::Nearest;
+use cache::Change;
+use cache::Last;
+use cache::Sought;
 use prefix::Address;
 use slots::Shape;
-ghost use mathlib.Core.Path.{_≡_};
-ghost use Prim.Native.Nat.{_≤_};
-ghost use Rattle.slots.specs.Layout.{entriesHeld, Room, Shaped};
-ghost use Rattle.entries.specs.Caches.{Slot};
+ghost use Rattle.slots.specs.Layout.{Room};
 
 const TURNS: u32 = 6_000;
 
@@ -45,30 +44,32 @@ fn digested(digest: u64, n: u64) -> u64 {
 
 // ---- one turn
 
-// The first bits of x, one to three more than any entry shares with it, where there is room.
-fn insert(store: &mut [u32], x: Address, past: u32, seed: u64, turn: u32) {
-    let Shape::Fits(h) = slots::read_header(store) else {
-        return;
-    };
-    if h.limit <= h.entries {
-        return;
-    }
-    let entries = h.entries;
+// The first bits of x, one to three more than any entry shares with it. Where there is no room the least recently used entry
+// goes first: how many went.
+fn insert(store: &mut [u32], x: Address, past: u32, seed: u64, turn: u32) -> u64 {
     let n = shorter(past, high(seed));
     let hop = hop_for(turn);
-    insertion::insert_entry(store, entries, x, n, hop);
+    match cache::insert(store, x, n, hop) {
+        Change::Made => 0,
+        Change::Refused => replace_oldest(store, x, n, hop),
+    }
 }
 
-fn hop_for(turn: u32) -> u32
-    ensures { λ r. ⌜ r ≤ 65535 ⌝ }
-{
+fn replace_oldest(store: &mut [u32], x: Address, n: u32, hop: u32) -> u64 {
+    let Last::Used(slot) = cache::oldest(store) else {
+        return 0;
+    };
+    cache::remove(store, slot);
+    cache::insert(store, x, n, hop);
+    1
+}
+
+fn hop_for(turn: u32) -> u32 {
     1 + turn % 60_000
 }
 
 // One to three more bits than are shared, at most 32.
-fn shorter(past: u32, k: u64) -> u32
-    ensures { λ r. ⌜ r ≤ 32 ⌝ }
-{
+fn shorter(past: u32, k: u64) -> u32 {
     if 32 <= past {
         return 32;
     }
@@ -76,53 +77,21 @@ fn shorter(past: u32, k: u64) -> u32
     if 32 < n { 32 } else { n }
 }
 
-fn remove(store: &mut [u32], k: u32) {
-    let Shape::Fits(h) = slots::read_header(store) else {
-        return;
-    };
-    if k == 0 {
-        return;
-    }
-    if h.entries < k {
-        return;
-    }
-    let entries = h.entries;
-    removal::remove_entry(store, entries, k);
-}
-
-// Where there is no room, the least recently used entry goes: how many went.
-fn make_room(store: &mut [u32]) -> u64 {
-    let Shape::Fits(h) = slots::read_header(store) else {
-        return 0;
-    };
-    if h.entries < h.limit {
-        return 0;
-    }
-    let k = entries::order::oldest(store);
-    remove(store, k);
-    1
-}
-
 fn store_new(store: &mut [u32], x: Address, past: u32, turn: u32, t: Totals) -> Totals {
     let mut u = t;
     u.stored = one_more(t.stored);
-    u.removed = std::num::wrapping_add_u64(t.removed, make_room(store));
-    insert(store, x, past, t.seed, turn);
+    u.removed = std::num::wrapping_add_u64(t.removed, insert(store, x, past, t.seed, turn));
     u
 }
 
-fn use_or_remove(store: &mut [u32], entries: u32, k: u32, t: Totals) -> Totals
-    requires { ⌜ Shaped (now store) ⌝ }
-    requires { ⌜ entries ≡ entriesHeld (now store) ⌝ }
-    requires { ⌜ Slot (now store) k ⌝ }
-{
+fn use_or_remove(store: &mut [u32], slot: u32, t: Totals) -> Totals {
     let mut u = t;
     if high(t.seed) % 10 < 4 {
-        removal::remove_entry(store, entries, k);
+        cache::remove(store, slot);
         u.removed = one_more(t.removed);
         return u;
     }
-    entries::order::to_front(store, entries, k);
+    cache::touch(store, slot);
     u.hits = one_more(t.hits);
     u
 }
@@ -131,14 +100,13 @@ fn turn_once(store: &mut [u32], turn: u32, t: Totals) -> Totals {
     let x = address_for(t.seed);
     let mut u = t;
     u.seed = next(next(next(t.seed)));
-    let Shape::Fits(h) = slots::read_header(store) else {
-        u.unsound = one_more(t.unsound);
-        return u;
-    };
-    let entries = h.entries;
-    match entries::find::find_entry(store, entries, x) {
-        Nearest::Hit(k) => use_or_remove(store, entries, k, u),
-        Nearest::Miss(past) => store_new(store, x, past, turn, u),
+    match cache::find(store, x) {
+        Sought::Entry(slot) => use_or_remove(store, slot, u),
+        Sought::Nothing(past) => store_new(store, x, past, turn, u),
+        Sought::Unsound => {
+            u.unsound = one_more(t.unsound);
+            u
+        }
     }
 }
 

@@ -1,5 +1,5 @@
 -- `cache_run::first_of` is safe. Assumes nothing.
-use Rattle.cache_run.proofs.Headers.{fits-shaped, fits-entries, fits-room, fits-slot, fits-words}
+use Rattle.slots.proofs.HeaderLaws.{header-room}
 use borrow.Author.Needs.{needs}
 use Rattle.cache_run.proofs.first_of.Statement.{statement}
 use Rattle.cache_run.proofs.first_of.Tie as tie
@@ -17,7 +17,7 @@ returns : tie.Need-returns
 returns c = search needs
 
 next-of-requires : tie.Need-next-of-requires
-next-of-requires c κs = search (needs, fits-shaped, fits-entries, fits-room, fits-slot, fits-words)
+next-of-requires c κs = search (needs, header-room)
 
 returns-2 : tie.Need-returns-2
 returns-2 c = search needs

@@ -1,5 +1,5 @@
 -- `cache_run::see` is safe. Assumes nothing.
-use Rattle.cache_run.proofs.Headers.{fits-shaped, fits-entries, fits-room, fits-slot, fits-words}
+use Rattle.slots.proofs.HeaderLaws.{header-room}
 use borrow.Author.Needs.{needs}
 use Rattle.cache_run.proofs.see.Statement.{statement}
 use Rattle.cache_run.proofs.see.Tie as tie
@@ -20,7 +20,7 @@ returns-2 : tie.Need-returns-2
 returns-2 c = search needs
 
 seen-at-requires : tie.Need-seen-at-requires
-seen-at-requires c κs = search (needs, fits-shaped, fits-entries, fits-room, fits-slot, fits-words)
+seen-at-requires c κs = search (needs, header-room)
 
 returns-3 : tie.Need-returns-3
 returns-3 c = search needs
