@@ -101,23 +101,24 @@ struct routes routes_from(const char *file)
     return routes;
 }
 
-/* Half of the routes lie inside an earlier, shorter one, as the more specific routes of a real table do. */
+/* Half of the routes lie inside a shorter one, as the more specific routes of a real table do. */
 struct routes routes_made_up(void)
 {
-    uint32_t total = 0, made = 0;
+    uint32_t total = 0;
     for (uint32_t length = 0; length <= 32; length++)
         total += lengths_of_2014[length];
     struct routes routes = { need_memory(total * sizeof(struct route)), 0 };
-    for (uint32_t length = 0; length <= 32; length++)
+    for (uint32_t length = 0; length <= 32; length++) {
+        uint32_t shorter = routes.count;
         for (uint32_t i = 0; i < lengths_of_2014[length]; i++) {
             uint32_t address = (1 + random_below(223)) << 24 | (uint32_t)(next_random() >> 40);
-            if (routes.count > 100 && random_below(2) == 0) {
-                struct route outer = routes.list[random_below(routes.count)];
+            if (shorter > 0 && random_below(2) == 0) {
+                struct route outer = routes.list[random_below(shorter)];
                 address = outer.address | (address & ~mask_of(outer.length));
             }
-            routes.list[made++] = (struct route){ address & mask_of(length), length, 1 + random_below(65535) };
-            routes.count = made;
+            routes.list[routes.count++] = (struct route){ address & mask_of(length), length, 1 + random_below(65535) };
         }
+    }
     sort_routes(&routes);
     shuffle(&routes);
     return routes;

@@ -32,7 +32,7 @@ void *need_memory(size_t bytes);
 /* The routes of a file with lines `address/length number`; in a random order. Ends the program where it has none. */
 struct routes routes_from(const char *file);
 
-/* As many routes as the table of May 2014 has, of the same lengths, at random addresses. */
+/* Nearly as many routes as the table of May 2014 has, of the same lengths, at random addresses. */
 struct routes routes_made_up(void);
 
 /*
