@@ -509,7 +509,16 @@ uint32_t twin_lookup(const uint32_t *table, size_t table_words, uint32_t *cache,
 
 /* ---- updates of the pair */
 
-/* Every entry is judged by the new table, from the last slot to the first; what moves into a slot is judged there. */
+/* Whether two prefixes overlap: they agree in the bits of the shorter. */
+static inline bool overlaps(uint32_t one, uint32_t length, uint32_t other, uint32_t other_length)
+{
+    return agree(one, other, length < other_length ? length : other_length);
+}
+
+/*
+ * Entries that overlap the updated prefix are judged by the new table, from the last slot to the first; what moves into a
+ * slot is looked at there.
+ */
 static void refresh(const struct node *nodes, uint32_t *cache, bool withdrawn, uint32_t address, uint32_t length,
                     uint32_t answer[2])
 {
@@ -518,6 +527,10 @@ static void refresh(const struct node *nodes, uint32_t *cache, bool withdrawn, u
     while (place != 0) {
         struct slot *slot = &slots[place];
         uint32_t own = slot->packed % 64;
+        if (!overlaps(slot->address, own, address, length)) {
+            place--;
+            continue;
+        }
         struct standing standing = judge(nodes, slot->address, own);
         if (standing.mark == 0 || standing.inside
             || (withdrawn && own == length && agree(slot->address, address, length))) {

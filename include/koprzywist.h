@@ -166,7 +166,7 @@ uint32_t kop_lookup(const uint32_t *table, size_t table_words, uint32_t *cache, 
  *
  * Entries that now hold a route strictly inside leave; every other entry has the hop of its longest match. The order of
  * use stays. Replacing a hop is done in a full table too. The table costs one descent of at most 33 nodes; the cache
- * costs a descent of the table for every entry held.
+ * costs a look at every entry held, and a descent of the table for each that overlaps the prefix.
  *
  * table, table_words  the table store and its size in words
  * cache, cache_words  the cache store and its size in words

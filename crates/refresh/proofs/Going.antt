@@ -29,7 +29,7 @@ going-start {table} {w} {u} {n} s e = rw e (record {
   };
   kept = record { limit-kept = refl; count = refl; past-kept = refl };
   size = refl;
-  turned = λ R. record { sound = R .its-entries; same-cache = refl; same-removed = refl; same-changed = refl; done = λ h. h };
+  turned = λ R. record { sound = R .its-entries; same-cache = refl; same-removed = refl; same-changed = refl; done = λ h. h; apart = λ h. h };
 })
 
 kept-on : {w x y : List ℕ} {m n : ℕ} → Kept w x m → Kept x y n → Kept w y n
@@ -46,6 +46,7 @@ turned-on a b = record {
   same-removed = b .same-removed ∙ a .same-removed;
   same-changed = b .same-changed ∙ a .same-changed;
   done = λ h. b .done (a .done h);
+  apart = λ h. b .apart (a .apart h);
 }
 
 pub going-on : {table w x y : List ℕ} {u : Update} {p q : Pass} → Going table w x u p → Stepped x y p q → Turns table x y u p q → length y ≡ length x → Going table w y u q
@@ -53,7 +54,7 @@ going-on g s t z = record {
   within = s .within;
   kept = kept-on (g .kept) (s .kept);
   size = z ∙ g .size;
-  turned = λ R. let a = g .turned R in turned-on a (t (record { its-table = R .its-table; its-entries = a .sound; short = R .short }));
+  turned = λ R. let a = g .turned R in turned-on a (t (record { its-table = R .its-table; its-entries = a .sound; short = R .short; apart = a .apart (R .apart) }));
 }
 
 pub at-slot : {table w x : List ℕ} {u : Update} {p : Pass} → Going table w x u p → ¬ (p .at ≡ 0) → Within x p × (0 < p .at)

@@ -8,14 +8,14 @@ use native.Mathlib.Omega.{arith}
 use lib.ListN.{length, take}
 use lib.Seq.{take-take}
 use Rattle.prefix.specs.Bits.{Bits, bits}
-use Rattle.prefix.specs.Prefix.{contains, strictlyInside, same, _⊑_}
+use Rattle.prefix.specs.Prefix.{contains, strictlyInside, overlap, same, _⊑_}
 use Rattle.prefix.specs.Addresses.{addressBits, ipv4Bits}
 use Rattle.prefix.specs.declared.Address.{Address}
-use Rattle.prefix.proofs.Booleans.{or-right, clash}
-use Rattle.prefix.proofs.Order.{take-len, take-⊑, ⊑-take}
-use Rattle.prefix.proofs.Tests.{contains-⊑, ⊑-contains, ne-same, eq-same}
+use Rattle.prefix.proofs.Booleans.{or-right, not-false, is-false, clash}
+use Rattle.prefix.proofs.Order.{⊑-length, ⊑-of-eq, ⊑-eq, take-len, take-⊑, ⊑-take}
+use Rattle.prefix.proofs.Tests.{contains-⊑, ⊑-contains, contains-of-take, ne-same, eq-same}
 use Rattle.prefix.proofs.AddressLaws.{length-address}
-use Rattle.model.specs.Lists.{any}
+use Rattle.model.specs.Lists.{_∈_, any}
 use Rattle.model.specs.Routes.{Route, match}
 use Rattle.model.specs.Model.{withdraws, leaves, hopOf, fresh}
 use Rattle.model.specs.Demands.{uncovered}
@@ -28,19 +28,56 @@ use Rattle.search.specs.Matches.{foundFor}
 use Rattle.search.specs.Standings.{Judged, JudgedAt}
 use Rattle.search.specs.declared.Found.the-variants.{Match, Nothing}
 use Rattle.search.specs.declared.Standing.{Standing}
-use Rattle.entries.specs.Caches.{SoundEntries, entryIn}
+use Rattle.lru.proofs.Holding.{slot-entry}
+use Rattle.entries.specs.Caches.{entries, SoundEntries, entryIn}
 use Rattle.updates.specs.Updates.{actionOf, prefixOfUpdate, updateOf}
 use Rattle.updates.specs.declared.Action.the-variants.{Announce, Withdraw}
 use Rattle.updates.specs.declared.Prefix.{Prefix}
 use Rattle.updates.specs.declared.Update.{Update}
 use Rattle.refresh.specs.declared.Pass.{Pass}
-use Rattle.refresh.specs.Passes.{Within, Turned, Drops, Keeps, Ready, Turns, Alike, Withdrawn}
+use Rattle.refresh.specs.Passes.{Within, nextPass, Turned, Drops, Keeps, Ready, Turns, Touches, Alike, Withdrawn}
 use Rattle.pairs.proofs.Pairing.{routes-hops}
-
--- ---- the withdrawn prefix
+use Rattle.refresh.proofs.Turning.{right-already}
 
 ipv4-length : (a : Address) → length (ipv4Bits a) ≡ 32
 ipv4-length a = take-len 32 (addressBits a) (omega (arith, length-address a))
+
+-- ---- prefixes that overlap
+
+-- if they do, the shorter contains the longer
+overlap-longer : (p q : Bits) → length q < length p → overlap p q ≡ contains q p
+unfolding overlap
+overlap-longer p q l = let no : contains p q ≡ false = is-false {b = contains p q} (λ e. omega (arith, ⊑-length (contains-⊑ p q e))) in rw no
+
+overlap-shorter : (p q : Bits) → length p ≤ length q → overlap p q ≡ contains p q
+unfolding overlap
+overlap-shorter p q l = go (contains p q) refl
+  where
+    go : (b : Bool) → contains p q ≡ b → (b || contains q p) ≡ b
+    go true e = refl
+    go false e = is-false (λ f. let h = contains-⊑ q p f in clash (⊑-contains (⊑-of-eq (sym (⊑-eq h l)))) e)
+
+module _ (p : Prefix) (a : Address) (n : ℕ) where
+  pub long-touched : 32 < n → Touches p a n true
+  long-touched l short = absurd (omega arith)
+
+  its-length : n ≤ 32 → length (take n (addressBits a)) ≡ n
+  its-length short = take-len n (addressBits a) (omega (arith, length-address a))
+
+  update-length : p .length ≤ 32 → length (take (p .length) (addressBits (p .address))) ≡ p .length
+  update-length shorter = take-len (p .length) (addressBits (p .address)) (omega (arith, length-address (p .address)))
+
+  pub longer-touched : p .length < n → (r : Bool) → r ≡ contains (take (p .length) (addressBits (p .address))) (addressBits a) → Touches p a n r
+  longer-touched l r is short shorter = rw (take-take n 32 (addressBits a) short, take-take (p .length) 32 (addressBits (p .address)) shorter)
+      (is ∙ sym (contains-of-take n (take (p .length) (addressBits (p .address))) (addressBits a) (omega (arith, update-length shorter)))
+      ∙ sym (overlap-longer (take n (addressBits a)) (take (p .length) (addressBits (p .address))) (omega (arith, update-length shorter, its-length short))))
+
+  pub shorter-touched : n ≤ p .length → (r : Bool) → r ≡ contains (take n (addressBits a)) (addressBits (p .address)) → Touches p a n r
+  shorter-touched l r is short shorter = rw (take-take n 32 (addressBits a) short, take-take (p .length) 32 (addressBits (p .address)) shorter)
+      (is ∙ sym (contains-of-take (p .length) (take n (addressBits a)) (addressBits (p .address)) (omega (arith, its-length short)))
+      ∙ sym (overlap-shorter (take n (addressBits a)) (take (p .length) (addressBits (p .address))) (omega (arith, update-length shorter, its-length short))))
+
+-- ---- the withdrawn prefix
 
 module _ (p : Prefix) (a : Address) (n : ℕ) where
   pub other-length : ¬ (p .length ≡ n) → Alike p a n false
@@ -80,6 +117,20 @@ found-none (some M) e = absurd (let z : _≡_ {A = ℕ} 0 1 = cc in omega arith)
 found-some : (o : Option Route) (hop len : ℕ) → foundFor o ≡ Match hop len → (M : Route) × (o ≡ some M) × (M .hop ≡ hop)
 found-some none hop len e = absurd (let z : _≡_ {A = ℕ} 0 1 = cc in omega arith)
 found-some (some M) hop len e = (M, refl, cc)
+
+module _ (table w : List ℕ) (u : Update) (p q : Pass) (a : Address) (n : ℕ) (h : Within w p × (0 < p .at))
+    (ea : take 32 (addressBits a) ≡ bits 32 (word w (slotWord (p .at) 0))) (en : n ≡ word w (slotWord (p .at) 1) % 64) where
+  is-apart : Ready table w u → Touches (u .prefix) a n false → overlap (entryIn w (p .at) .prefix) (prefixOfUpdate u) ≡ false
+  unfolding cacheOf
+  is-apart R told = rw (← ea, ← en) (sym (told (rw en (R .its-entries .plain .short (p .at) (h .1) (omega (arith, h .0 .at-most, h .0 .count)))) (R .short)))
+
+  in-entries : SoundEntries w → entryIn w (p .at) ∈ entries w
+  unfolding entries
+  in-entries S = slot-entry (S .slots) (p .at) (h .1, omega (arith, h .0 .at-most, h .0 .count))
+
+  pub untouched : (r : Bool) → Touches (u .prefix) a n r → not r ≡ true → q ≡ nextPass p 0 → Turns table w w u p q
+  untouched r told e next R = right-already h next (routes table) (updateOf u) (R .its-entries)
+      (R .apart (entryIn w (p .at)) (in-entries (R .its-entries)) (is-apart R (subst (Touches (u .prefix) a n) (not-false r e) told)))
 
 module _ (table w w′ : List ℕ) (u : Update) (p q : Pass) (a : Address) (n : ℕ) (s : Standing) (h : Within w p × (0 < p .at))
     (ea : take 32 (addressBits a) ≡ bits 32 (word w (slotWord (p .at) 0))) (en : n ≡ word w (slotWord (p .at) 1) % 64) (j : JudgedAt table (ipv4Bits a) n s) where

@@ -1,23 +1,25 @@
 -- One turn of the pass: the entry in hand leaves, or stays. Assumes nothing.
 use mathlib.Core.Path.{_≡_, refl, sym, ap, _∙_, subst}
 use mathlib.Core.Bool.{true, false, not}
-use mathlib.Core.List.{List, map}
+use mathlib.Core.List.{List, map, Memᴰ·map, Memᴰ·of-map}
 use Prim.Native.Nat.{ℕ, suc, _+_, _-_, _/_, _≤_, _<_}
 use native.Mathlib.Decide.{ℕ-discrete}
 use native.Mathlib.Omega.{arith}
 use lib.ListN.{length}
 use lib.Dec.{eqb}
 use borrow.Author.Tests.{eq-eqb, ne-eqb}
-use Rattle.model.specs.Lists.{keep}
+use Rattle.model.specs.Lists.{_∈_, keep}
 use Rattle.model.specs.Routes.{Table, Update}
 use Rattle.model.specs.Model.{Entry, Cache, leaves, fresh, refreshed, removed, changed}
 use Rattle.lru.specs.Sound as lru
+use Rattle.lru.specs.Results.{without}
+use Rattle.lru.proofs.Rings.{without-sub}
 use Rattle.lru.proofs.Orders.{ring-order, order-all, order-distinct}
-use Rattle.lru.proofs.Holding.{keep-others}
+use Rattle.lru.proofs.Holding.{keep-others, slot-entry, entry-slot}
 use Rattle.slots.specs.Layout.{slotWord, word, entriesHeld, cacheOf, Shaped}
 use Rattle.entries.specs.Caches.{entries, SoundEntries, Slot, entryIn, withHop, rehopped, Kept, Removes, Rehops}
 use Rattle.refresh.specs.declared.Pass.{Pass}
-use Rattle.refresh.specs.Passes.{Within, Stepped, Right, RightAbove, Turned, Drops, Keeps, nextPass}
+use Rattle.refresh.specs.Passes.{Within, Stepped, Right, RightAbove, RightApart, Turned, Drops, Keeps, nextPass}
 use Rattle.pairs.proofs.Pairing.{held-entries}
 use Rattle.refresh.proofs.Passing.{leaves-prefix, fresh-prefix, rehop-cache, rehop-removed, rehop-changed, fewer-removed}
 
@@ -63,6 +65,13 @@ module _ {w w′ : List ℕ} {p : Pass} (h : Within w p × (0 < p .at)) (kept : 
     unfolding changed
     drop-changed = ap (λ (c : Cache). length (keep (λ E. not (eqb (E .hop) (fresh T E .hop))) c)) same-stay
 
+    was-held : (E : Entry) → E ∈ entries w′ → E ∈ entries w
+    unfolding entries lru.entries
+    was-held E m = go (Memᴰ·of-map (entryIn w) _ (subst (λ (c : Cache). E ∈ c) (gone S .holds .are-entries) m))
+      where
+        go : (i : ℕ) × (i ∈ without (p .at) (lru.order (entriesHeld w) (cacheOf w))) × (entryIn w i ≡ E) → E ∈ map (entryIn w) (lru.order (entriesHeld w) (cacheOf w))
+        go (i, l, e) = subst (λ (D : Entry). D ∈ map (entryIn w) (lru.order (entriesHeld w) (cacheOf w))) e (Memᴰ·map (entryIn w) (without-sub (p .at) _ i l))
+
     turned : (a : ℕ) → ((s : ℕ) → Slot w′ s → a < s → p .at < s) → Turned T u w w′ p (after a)
     turned a above = record {
       sound = gone S .holds .sound;
@@ -70,6 +79,7 @@ module _ {w w′ : List ℕ} {p : Pass} (h : Within w p × (0 < p .at)) (kept : 
       same-removed = omega (arith, fewer-removed T u (entries w) (entries w′) same-stay one-less);
       same-changed = ap (λ (n : ℕ). p .changed + n) drop-changed;
       done = λ right s ls lt. moved right s (gone S .later s ls (above s ls lt));
+      apart = λ right E m. right E (was-held E m);
     }
       where
         moved : RightAbove T u w (p .at) → (s : ℕ) → (z : ℕ) × Slot w z × (p .at < z) × (entryIn w′ s ≡ entryIn w z) → Right T u (entryIn w′ s)
@@ -113,21 +123,22 @@ module _ {w : List ℕ} {p q : Pass} (h : Within w p × (0 < p .at)) (e : q ≡ 
   pub left-alone : Stepped w w p q
   left-alone = next-stepped h (same-kept w) refl (omega arith) e
 
-  pub has-hop : (hop old : ℕ) → old ≡ word w (slotWord (p .at) 1) / 64 → old ≡ hop → Keeps w w p hop q
-  has-hop hop old is same T u S stays new small = rw e (record {
+  pub right-already : (T : Table) (u : Update) → SoundEntries w → Right T u (entryIn w (p .at)) → Turned T u w w p q
+  right-already T u S now = rw e (record {
     sound = S;
     same-cache = refl;
     same-removed = refl;
     same-changed = omega arith;
     done = λ right s ls lt. go right s ls lt (ℕ-discrete s (p .at));
+    apart = λ right. right;
   })
     where
-      now : Right T u (entryIn w (p .at))
-      now = record { stays = stays; its-hop = hop-word w (p .at) ∙ sym is ∙ same ∙ sym new }
-
       go : RightAbove T u w (p .at) → (s : ℕ) → Slot w s → p .at - 1 < s → Dec (s ≡ p .at) → Right T u (entryIn w s)
       go right s ls lt (yes z) = subst (λ (i : ℕ). Right T u (entryIn w i)) (sym z) now
       go right s ls lt (no ne) = right s ls (omega arith)
+
+  pub has-hop : (hop old : ℕ) → old ≡ word w (slotWord (p .at) 1) / 64 → old ≡ hop → Keeps w w p hop q
+  has-hop hop old is same T u S stays new small = right-already T u S (record { stays = stays; its-hop = hop-word w (p .at) ∙ sym is ∙ same ∙ sym new })
 
   pub high-hop : (hop : ℕ) → 65535 < hop → Keeps w w p hop q
   high-hop hop l T u S stays new small = absurd (omega arith)
@@ -167,6 +178,18 @@ module _ {w w′ : List ℕ} {p q : Pass} (h : Within w p × (0 < p .at)) (e : q
       its-hop = sym new ∙ ap (λ (E : Entry). E .hop) (fresh-prefix T u (entryIn w (p .at)) (record { prefix = entryIn w (p .at) .prefix; hop = hop }) refl);
     })
 
+    give-apart : RightApart T u w → RightApart T u w′
+    unfolding entries
+    give-apart right E m o = go (entry-slot (gives S .holds .sound .slots) E m)
+      where
+        at-slot : (s : ℕ) → Slot w′ s → entryIn w′ s ≡ E → Dec (s ≡ p .at) → Right T u E
+        at-slot s ls is-E (yes z) = subst (Right T u) (ap (entryIn w′) (sym z) ∙ is-E) now-right
+        at-slot s ls is-E (no ne) =
+            right E (subst (λ (D : Entry). D ∈ entries w) (sym (gives S .there s ne) ∙ is-E) (slot-entry (S .slots) s (ls .0, omega (arith, kept .count, ls .1)))) o
+
+        go : (s : ℕ) × Slot w′ s × (entryIn w′ s ≡ E) → Right T u E
+        go (s, ls, is-E) = at-slot s ls is-E (ℕ-discrete s (p .at))
+
     give-turned : Turned T u w w′ p (nextPass p 1)
     give-turned = record {
       sound = gives S .holds .sound;
@@ -174,6 +197,7 @@ module _ {w w′ : List ℕ} {p q : Pass} (h : Within w p × (0 < p .at)) (e : q
       same-removed = ap (λ (n : ℕ). p .removed + n) give-removed;
       same-changed = omega (arith, give-changed);
       done = λ right s ls lt. go right s ls lt (ℕ-discrete s (p .at));
+      apart = give-apart;
     }
       where
         go : RightAbove T u w (p .at) → (s : ℕ) → Slot w′ s → p .at - 1 < s → Dec (s ≡ p .at) → Right T u (entryIn w′ s)

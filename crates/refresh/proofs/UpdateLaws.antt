@@ -1,6 +1,6 @@
 -- An update of a pair of stores, by what the table said. Assumes nothing.
 use mathlib.Core.Path.{_≡_, refl, sym, ap, ap₂, _∙_, subst}
-use mathlib.Core.Bool.{not}
+use mathlib.Core.Bool.{Bool, not}
 use mathlib.Core.List.{List}
 use mathlib.Core.Logic.{_⊎_, inl, inr}
 use Prim.Native.Nat.{ℕ, zero, suc, _≤_}
@@ -21,8 +21,8 @@ use Rattle.model.specs.Runs.{State, Outcome, step, judged, accepted, update}
 use Rattle.model.specs.Demands.{Covered}
 use Rattle.model.proofs.ListLaws.{keep-in, map-in}
 use Rattle.model.proofs.Match.{OneEach, one-each}
-use Rattle.model.proofs.Updates.{updated-distinct, fresh-entry, update-refused}
-use Rattle.model.proofs.SameRoutes.{refreshed-same, removed-same, changed-same}
+use Rattle.model.proofs.Updates.{updated-distinct, fresh-entry, update-refused, apart-stays, apart-unchanged}
+use Rattle.model.proofs.SameRoutes.{leaves-same, fresh-same, refreshed-same, removed-same, changed-same}
 use Rattle.prefix.proofs.Booleans.{not-false}
 use Rattle.slots.specs.Layout.{Shaped}
 use Rattle.slots.specs.Headers.{HeaderRead}
@@ -41,7 +41,7 @@ use Rattle.refresh.specs.declared.Updated.{Updated}
 use Rattle.pairs.specs.Pairs.{SoundPair, limitsOf}
 use Rattle.pairs.specs.States.{stateOf, Reached}
 use Rattle.refresh.specs.Promises.{updatedOf, updateStep, UpdatedPair, Refused, UpdatePromise, unfitNumber, refusedBy, Numbered}
-use Rattle.refresh.specs.Passes.{Renewed, Passed}
+use Rattle.refresh.specs.Passes.{RightApart, Renewed, Passed}
 use Rattle.pairs.proofs.Pairing.{legal-pair}
 
 -- ---- what the model says
@@ -130,11 +130,19 @@ module _ {w w′ : List ℕ} {u : Update} {v : Verdict} (a : TableUpdated w w′
         after : TableAfter w w′ (updateOf u)
         after = a .accepted (P .its-table) (is-done v (sym number ∙ none))
 
-        renewed : Renewed (routes w′) (updateOf u) x x′ p
-        renewed = passed .renewed (record { its-table = after .sound; its-entries = P .its-cache; short = short })
-
         one : OneEach (updated (routes w) (updateOf u))
         one = one-each (updated-distinct (routes w) (updateOf u) (legal-pair P .distinct))
+
+        apart : RightApart (routes w′) (updateOf u) x
+        apart E m o = record {
+          stays = ap (λ (f : Entry → Bool). f E) (leaves-same (routes w′) (updated (routes w) (updateOf u)) (updateOf u) (after .are-routes))
+              ∙ apart-stays (routes w) (updateOf u) E (legal-pair P .distinct) (P .covered E m) o;
+          its-hop = sym (ap (λ (f : Entry → Entry). f E .hop) (fresh-same (routes w′) (updated (routes w) (updateOf u)) one (after .are-routes))
+              ∙ ap (λ (D : Entry). D .hop) (apart-unchanged (routes w) (updateOf u) E (legal-pair P .distinct) (P .covered E m) o));
+        }
+
+        renewed : Renewed (routes w′) (updateOf u) x x′ p
+        renewed = passed .renewed (record { its-table = after .sound; its-entries = P .its-cache; short = short; apart = apart })
 
         is-removed : p .removed ≡ removed (updated (routes w) (updateOf u)) (updateOf u) (entries x)
         is-removed = renewed .is-removed ∙ removed-same (routes w′) (updated (routes w) (updateOf u)) (updateOf u) (entries x) (after .are-routes)

@@ -4,10 +4,11 @@ use mathlib.Core.Bool.{Bool, true, false, _&&_}
 use mathlib.Core.List.{List}
 use Prim.Native.Nat.{ℕ, _+_, _-_, _≤_, _<_}
 use lib.ListN.{length, take}
-use Rattle.prefix.specs.Prefix.{same}
+use Rattle.prefix.specs.Prefix.{overlap, same}
 use Rattle.prefix.specs.Addresses.{ipv4Bits}
 use Rattle.prefix.specs.declared.Address.{Address}
 use Rattle.sizes.specs.Sizes.{largestLimit}
+use Rattle.model.specs.Lists.{_∈_}
 use Rattle.model.specs.Routes as model
 use Rattle.model.specs.Model.{Entry, withdraws, leaves, fresh, refreshed, removed, changed}
 use Rattle.slots.specs.Layout.{entriesHeld, Shaped}
@@ -48,6 +49,10 @@ pub record Right (T : model.Table) (u : model.Update) (E : Entry) : Type 0 where
 abbrev pub RightAbove : model.Table → model.Update → List ℕ → ℕ → Type 0
 RightAbove T u w at = (s : ℕ) → Slot w s → at < s → Right T u (entryIn w s)
 
+-- entries that do not overlap the updated prefix: the pass need not ask the table about them
+abbrev pub RightApart : model.Table → model.Update → List ℕ → Type 0
+RightApart T u w = (E : Entry) → E ∈ entries w → overlap (E .prefix) (u .prefix) ≡ false → Right T u E
+
 -- what is left to do leads to the same cache and the same counts; the slots after `at` are done
 pub record Turned (T : model.Table) (u : model.Update) (w w′ : List ℕ) (p q : Pass) : Type 0 where
   pub sound : SoundEntries w′
@@ -55,6 +60,7 @@ pub record Turned (T : model.Table) (u : model.Update) (w w′ : List ℕ) (p q 
   pub same-removed : q .removed + removed T u (entries w′) ≡ p .removed + removed T u (entries w)
   pub same-changed : q .changed + changed T u (entries w′) ≡ p .changed + changed T u (entries w)
   pub done : RightAbove T u w (p .at) → RightAbove T u w′ (q .at)
+  pub apart : RightApart T u w → RightApart T u w′
 
 -- the entry in hand leaves
 abbrev pub Drops : List ℕ → List ℕ → Pass → Pass → Type 0
@@ -65,14 +71,19 @@ abbrev pub Keeps : List ℕ → List ℕ → Pass → ℕ → Pass → Type 0
 Keeps w w′ p hop q = (T : model.Table) (u : model.Update) → SoundEntries w → leaves T u (entryIn w (p .at)) ≡ false
     → fresh T (entryIn w (p .at)) .hop ≡ hop → hop ≤ 65535 → Turned T u w w′ p q
 
--- a table and a cache that are sound, each in itself, and an update that was not too long
+-- a table and a cache that are sound, each in itself, and an update that was not too long and left the other entries right
 pub record Ready (table w : List ℕ) (u : Update) : Type 0 where
   pub its-table : SoundTable table
   pub its-entries : SoundEntries w
   pub short : u .prefix .length ≤ 32
+  pub apart : RightApart (routes table) (updateOf u) w
 
 abbrev pub Turns : List ℕ → List ℕ → List ℕ → Update → Pass → Pass → Type 0
 Turns table w w′ u p q = Ready table w u → Turned (routes table) (updateOf u) w w′ p q
+
+-- the first n bits of a overlap p
+abbrev pub Touches : Prefix → Address → ℕ → Bool → Type 0
+Touches p a n r = n ≤ 32 → p .length ≤ 32 → r ≡ overlap (take n (ipv4Bits a)) (take (p .length) (ipv4Bits (p .address)))
 
 -- the first n bits of a are those of p
 abbrev pub Alike : Prefix → Address → ℕ → Bool → Type 0

@@ -1,5 +1,6 @@
-// The public update of a pair of stores that the caller lends: the table first, then every entry of the cache. It takes every
-// update and every content of the stores, and ends; from a sound pair it does what the model says and leaves it sound.
+// The public update of a pair of stores that the caller lends: the table first, then the entries that overlap the prefix. It
+// takes every update and every content of the stores, and ends; from a sound pair it does what the model says and leaves it
+// sound.
 use prefix::Address;
 use search::Found;
 use slots::Shape;
@@ -12,7 +13,7 @@ ghost use Prim.Native.Nat.{_<_, _≤_};
 ghost use Rattle.slots.specs.Layout.{entriesHeld, Shaped};
 ghost use Rattle.updates.specs.Updates.{firstRefusal};
 ghost use Rattle.refresh.specs.Promises.{UpdatePromise, unfitNumber, refusedBy, Numbered};
-ghost use Rattle.refresh.specs.Passes.{Within, nextPass, Stepped, Drops, Keeps, Turns, Withdrawn, Alike, Passed};
+ghost use Rattle.refresh.specs.Passes.{Within, nextPass, Stepped, Drops, Keeps, Turns, Touches, Withdrawn, Alike, Passed};
 
 pub struct Updated {
     // 0, or the number of the refusal
@@ -95,7 +96,7 @@ fn refresh(table: &[u32], cache: &mut [u32], u: Update, entries: u32) -> Pass
     p
 }
 
-// One entry: it leaves, takes another hop, or stays as it is.
+// One entry: it leaves, takes another hop, or stays as it is. The table is not asked about one that the update cannot touch.
 fn refresh_one(table: &[u32], cache: &mut [u32], u: Update, p: Pass) -> Pass
     requires { ⌜ Within (now cache) p × (0 < p .at) ⌝ }
     ensures { λ r. ⌜ Stepped (now (cache .entry)) (now (cache .exit)) p r ⌝ }
@@ -103,6 +104,9 @@ fn refresh_one(table: &[u32], cache: &mut [u32], u: Update, p: Pass) -> Pass
 {
     let a = slots::address_of(cache, p.at);
     let n = slots::length_of(cache, p.at);
+    if !touches(u.prefix, a, n) {
+        return next_slot(p, 0);
+    }
     let s = search::judge(table, a, n);
     let found = s.found;
     let Found::Match(hop, _) = found else {
@@ -115,6 +119,19 @@ fn refresh_one(table: &[u32], cache: &mut [u32], u: Update, p: Pass) -> Pass
         return drop_one(cache, p);
     }
     keep_one(cache, p, hop)
+}
+
+// Whether the first n bits of a overlap the prefix p: the shorter of the two contains the other.
+fn touches(p: Prefix, a: Address, n: u32) -> bool
+    ensures { λ r. ⌜ Touches p a n r ⌝ }
+{
+    if 32 < n {
+        return true;
+    }
+    if p.length < n {
+        return prefix::covers_high(p.address, p.length, a);
+    }
+    prefix::covers_high(a, n, p.address)
 }
 
 // Whether the prefix of the first n bits of a was just withdrawn.
