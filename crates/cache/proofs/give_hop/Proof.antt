@@ -1,4 +1,5 @@
 -- `cache::give_hop` meets its contract. Assumes nothing.
+use native.Mathlib.Omega.{arith}
 use Rattle.cache.proofs.CallLaws.{give-refused, give-asked, give-no-hop, give-made}
 use borrow.Author.Needs.{needs}
 use Rattle.cache.proofs.give_hop.Statement.{statement}
@@ -29,7 +30,7 @@ returns-2 : tie.Need-returns-2
 returns-2 c = search (needs, give-no-hop)
 
 give-hop-requires : tie.Need-give-hop-requires
-give-hop-requires c κs = let told = c .before .before .before in give-asked _ _ _ (told .before .before .place-of .ensures) _ (told .enum-told .given .1) _ _ (c .before .before .is-hop .ensures) (search needs)
+give-hop-requires c κs = let told = c .before .before .before in let p = give-asked _ _ _ (told .before .before .place-of .ensures) _ (told .enum-told .given .1) _ _ (c .before .before .is-hop .ensures) (search needs) in (p .0, (p .1 .0, omega (arith, p)))
 
 same-length-3 : tie.Need-same-length-3
 same-length-3 c = search needs

@@ -1,4 +1,5 @@
 -- `cache::touch` meets its contract. Assumes nothing.
+use native.Mathlib.Omega.{arith}
 use Rattle.cache.proofs.CallLaws.{touch-refused, change-asked, touch-made}
 use borrow.Author.Needs.{needs}
 use Rattle.cache.proofs.touch.Statement.{statement}
@@ -20,7 +21,7 @@ returns : tie.Need-returns
 returns c = search (needs, touch-refused)
 
 to-front-requires : tie.Need-to-front-requires
-to-front-requires c κs = let known = c .before .before in change-asked _ _ _ (known .before .before .place-of .ensures) _ (known .held .given .1)
+to-front-requires c κs = let known = c .before .before in let p = change-asked _ _ _ (known .before .before .place-of .ensures) _ (known .held .given .1) in (p .0, (p .1 .0, (omega (arith, p), omega (arith, p))))
 
 same-length-2 : tie.Need-same-length-2
 same-length-2 c = search needs
