@@ -88,6 +88,7 @@ lent-lookup table cache cache′ words t t′ address r told added = record {
   are-words = told .are-words;
   is-record = added .is-sum ∙ ap (sum t) (told .is-moved);
   promise = λ S. look-from table cache cache′ t (added .was-in-range) address (told .call) (told .promise S);
+  refused = λ n. ap (sum t) (told .refused n) ∙ sym (adds-none t (added .was-in-range));
 }
 
 -- ---- of an update

@@ -11,7 +11,7 @@ use Rattle.tallies.specs.declared.Tallies.{Tallies}
 use Rattle.updates.specs.declared.Action.{Action}
 use Rattle.updates.specs.declared.Update.{Update}
 use Rattle.pairs.specs.Pairs.{SoundPair}
-use Rattle.lookup.specs.Promises.{LookedUp}
+use Rattle.lookup.specs.Promises.{LookedUp, NothingCounted}
 use Rattle.refresh.specs.Promises.{UpdatePromise, Numbered}
 use Rattle.lookup.specs.declared.Answer.{Answer}
 use Rattle.lookup.specs.declared.Answer.the-variants.{Hit, Miss, Drop, Unsound}
@@ -43,10 +43,17 @@ no-words e k = e ∙ sym (ap lookWords k)
 -- ---- what a call told
 
 pub look-told : {table cache cache′ words : List ℕ} {address number : ℕ} {t : Tallies} (call : Looked)
-    → t ≡ zeroTallies → (SoundPair table cache → LookedUp table cache cache′ t address call) → words ≡ lookWords (call .answer) → number ≡ lookNumber (call .answer)
+    → t ≡ zeroTallies → (SoundPair table cache → LookedUp table cache cache′ t address call) → NothingCounted t call → words ≡ lookWords (call .answer) → number ≡ lookNumber (call .answer)
     → LookTold table cache cache′ address words (record { number = number; moved = call .tallies })
-look-told {table} {cache} {cache′} {address = address} call zero promise words number =
-    record { call = call; is-number = number; are-words = words; is-moved = refl; promise = λ S. subst (λ t. LookedUp table cache cache′ t address call) zero (promise S) }
+look-told {table} {cache} {cache′} {address = address} call zero promise refused words number =
+    record {
+      call = call;
+      is-number = number;
+      are-words = words;
+      is-moved = refl;
+      promise = λ S. subst (λ t. LookedUp table cache cache′ t address call) zero (promise S);
+      refused = λ n. refused n ∙ zero;
+    }
 
 pub update-told : {table cache table′ cache′ : List ℕ} {address length : ℕ} {action : Action} {t : Tallies} (u : Update) (call : Updated)
     → Means address length action u → t ≡ zeroTallies → UpdatePromise table cache table′ cache′ t u call → Numbered t u call

@@ -12,7 +12,7 @@ use Rattle.cache.specs.Calls.{CacheSetUp}
 use Rattle.updates.specs.declared.Action.{Action}
 use Rattle.updates.specs.declared.Update.{Update}
 use Rattle.pairs.specs.Pairs.{SoundPair}
-use Rattle.lookup.specs.Promises.{LookedUp}
+use Rattle.lookup.specs.Promises.{LookedUp, NothingCounted}
 use Rattle.refresh.specs.Promises.{UpdatePromise, Numbered}
 use Rattle.lookup.specs.declared.Looked.{Looked}
 use Rattle.refresh.specs.declared.Updated.{Updated}
@@ -51,6 +51,7 @@ pub record LentLookup (table cache cache′ : List ℕ) (t t′ : Tallies) (addr
   pub are-words : words ≡ lookWords (call .answer)
   pub is-record : t′ ≡ call .tallies
   pub promise : SoundPair table cache → LookedUp table cache cache′ t address call
+  pub refused : NothingCounted t call
 
 pub record LentUpdate (table cache table′ cache′ : List ℕ) (t t′ : Tallies) (address length : ℕ) (action : Action) (number : ℕ) (words : List ℕ) : Type 0 where
   pub update : Update
@@ -70,6 +71,7 @@ pub record LookTold (table cache cache′ : List ℕ) (address : ℕ) (words : L
   pub are-words : words ≡ lookWords (call .answer)
   pub is-moved : r .moved ≡ call .tallies
   pub promise : SoundPair table cache → LookedUp table cache cache′ zeroTallies address call
+  pub refused : NothingCounted zeroTallies call
 
 pub record UpdateTold (table cache table′ cache′ : List ℕ) (address length : ℕ) (action : Action) (words : List ℕ) (r : Told) : Type 0 where
   pub update : Update

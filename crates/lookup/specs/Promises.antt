@@ -41,3 +41,12 @@ pub record LookedUp (table cache cache′ : List ℕ) (tallies : Tallies) (addre
   pub state : Reached table cache′ (r .tallies) (lookStep table cache tallies address .state)
   pub sound : SoundPair table cache′
   pub kept : CacheKept cache cache′
+
+-- ---- a refusal: 9, "with all other parts of the answer 0"
+
+abbrev pub refusedLook : Tallies → Looked
+refusedLook tallies = record { answer = Unsound; tallies = tallies }
+
+-- on any pair of stores: a lookup that is refused has counted nothing
+abbrev pub NothingCounted : Tallies → Looked → Type 0
+NothingCounted tallies r = r .answer ≡ Unsound → r .tallies ≡ tallies

@@ -13,7 +13,7 @@ ghost use Rattle.prefix.specs.Addresses.{ipv4Bits};
 ghost use Rattle.slots.specs.Layout.{limitOf, entriesHeld, Shaped};
 ghost use Rattle.entries.specs.Caches.{Slot, SoundEntries, Free};
 ghost use Rattle.pairs.specs.Pairs.{SoundPair};
-ghost use Rattle.lookup.specs.Promises.{LookedUp};
+ghost use Rattle.lookup.specs.Promises.{LookedUp, refusedLook, NothingCounted};
 ghost use Rattle.lookup.specs.Lookups.{Missed, LookedAt, Used, FirstBits, Stored, MadeRoom};
 
 pub enum Answer {
@@ -35,6 +35,7 @@ pub struct Looked {
 // The next hop for an address. The table is lent as `&`: a lookup cannot change a route.
 pub fn look_up(table: &[u32], cache: &mut [u32], t: Tallies, address: u32) -> Looked
     ensures { λ r. ⌜ (SoundPair (now (table .entry)) (now (cache .entry)) → LookedUp (now (table .entry)) (now (cache .entry)) (now (cache .exit)) t address r) ⌝ }
+    ensures { λ r. ⌜ NothingCounted t r ⌝ }
 {
     let x = prefix::from_ipv4(address);
     let Shape::Fits(h) = slots::read_header(cache) else {
@@ -46,7 +47,9 @@ pub fn look_up(table: &[u32], cache: &mut [u32], t: Tallies, address: u32) -> Lo
     }
 }
 
-fn unsound(t: Tallies) -> Looked {
+fn unsound(t: Tallies) -> Looked
+    ensures { λ r. ⌜ r ≡ refusedLook t ⌝ }
+{
     Looked {
         answer: Answer::Unsound,
         tallies: t,
@@ -73,6 +76,7 @@ fn miss(table: &[u32], cache: &mut [u32], h: Header, x: Address, past: u32, t: T
     requires { ⌜ Shaped (now cache) ⌝ }
     requires { ⌜ (h .limit ≡ limitOf (now cache)) × (h .entries ≡ entriesHeld (now cache)) ⌝ }
     ensures { λ r. ⌜ (SoundPair (now (table .entry)) (now (cache .entry)) → Missed (now (cache .entry)) (ipv4Bits x) past → LookedAt (now (table .entry)) (now (cache .entry)) (now (cache .exit)) t (ipv4Bits x) r) ⌝ }
+    ensures { λ r. ⌜ NothingCounted t r ⌝ }
 {
     let s = search::longest_match(table, x);
     let found = s.found;
@@ -112,6 +116,7 @@ fn store_entry(
     requires { ⌜ (h .limit ≡ limitOf (now cache)) × (h .entries ≡ entriesHeld (now cache)) ⌝ }
     requires { ⌜ (n ≤ 32) × (hop ≤ 65535) ⌝ }
     ensures { λ r. ⌜ (SoundEntries (now (cache .entry)) → Free (now (cache .entry)) (take n (ipv4Bits x)) → Stored (now (cache .entry)) (now (cache .exit)) (ipv4Bits x) n hop examined t r) ⌝ }
+    ensures { λ r. ⌜ NothingCounted t r ⌝ }
 {
     let Room::For(held) = make_room(cache, h) else {
         return unsound(t);

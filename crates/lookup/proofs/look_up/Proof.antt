@@ -1,6 +1,7 @@
 -- `lookup::look_up` meets its contract. Assumes nothing.
 use Rattle.slots.proofs.HeaderLaws.{header-shaped, header-entries}
 use Rattle.lookup.proofs.Looking.{broken, header-limit, hit-slot, looked-hit, looked-miss}
+use Rattle.lookup.proofs.Refusing.{refused-counts, hit-counts}
 use borrow.Author.Needs.{needs}
 use Rattle.lookup.proofs.look_up.Statement.{statement}
 use Rattle.lookup.proofs.look_up.Tie as tie
@@ -24,7 +25,7 @@ same-length : tie.Need-same-length
 same-length c = search needs
 
 returns : tie.Need-returns
-returns c = search (needs, broken)
+returns c = (search (needs, broken), search (needs, refused-counts))
 
 find-entry-requires : tie.Need-find-entry-requires
 find-entry-requires c κs = search (needs, header-shaped, header-entries)
@@ -45,13 +46,13 @@ same-length-2 : tie.Need-same-length-2
 same-length-2 c = search needs
 
 returns-2 : tie.Need-returns-2
-returns-2 c = search (needs, looked-hit)
+returns-2 c = (search (needs, looked-hit), search (needs, hit-counts))
 
 same-length-3 : tie.Need-same-length-3
 same-length-3 c = search needs
 
 returns-3 : tie.Need-returns-3
-returns-3 c = search (needs, looked-miss)
+returns-3 c = (search (needs, looked-miss), search needs)
 
 pub look-up-spec : {M : Type 1} → statement M
 look-up-spec =

@@ -1,5 +1,6 @@
 -- `lookup::store_entry` meets its contract. Assumes nothing.
 use Rattle.lookup.proofs.Storing.{no-room, room-shaped, room-held, room-left, room-fewer, stored}
+use Rattle.lookup.proofs.Refusing.{refused-counts, miss-counts}
 use borrow.Author.Needs.{needs}
 use Rattle.lookup.proofs.store_entry.Statement.{statement}
 use Rattle.lookup.proofs.store_entry.Tie as tie
@@ -20,7 +21,7 @@ same-length : tie.Need-same-length
 same-length c = search needs
 
 returns : tie.Need-returns
-returns c = search (needs, no-room)
+returns c = (search (needs, no-room), search (needs, refused-counts))
 
 insert-entry-requires : tie.Need-insert-entry-requires
 insert-entry-requires c κs = (search (needs, room-shaped), (search (needs, room-held), search (needs, room-left)))
@@ -38,7 +39,7 @@ same-length-2 : tie.Need-same-length-2
 same-length-2 c = search needs
 
 returns-2 : tie.Need-returns-2
-returns-2 c = search (needs, stored)
+returns-2 c = (search (needs, stored), search (needs, miss-counts))
 
 pub store-entry-spec : {M : Type 1} → statement M
 store-entry-spec =
