@@ -25,7 +25,7 @@ enum {
     TRACE = 5000000,
     MISSES = 65536,
     TABLE_UPDATES = 20000, /* with an empty cache */
-    PAIR_UPDATES = 200,    /* with a cache that every update walks */
+    PAIR_UPDATES = 2000,   /* with a cache whose entries every update looks at */
     UPDATE_ENTRIES = 4096,
     COUNTED_ROUTES = 30000,
     COUNTED_TRACE = 200000
