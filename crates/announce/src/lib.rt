@@ -4,7 +4,6 @@ use nodes::Shape;
 use prefix::Address;
 use table::Stop;
 use verdicts::Verdict;
-ghost use mathlib.Core.Path.{_≡_};
 ghost use Prim.Native.Nat.{_≤_, _<_};
 ghost use Rattle.model.specs.Demands.{Hop};
 ghost use Rattle.announce.specs.Writes.{Roomy};

@@ -2,5 +2,4 @@ pub mod Booleans
 pub mod Storing
 pub mod DecimalLaws
 pub mod WritingLaws
-pub mod Callers
 pub mod Samples

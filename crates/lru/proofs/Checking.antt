@@ -1,8 +1,7 @@
 -- The check decides soundness: the conditions on single slots and the walk along the ring hold exactly for a sound cache. Assumes nothing.
 use mathlib.Core.Path.{_≡_, refl, sym, ap, _∙_, subst}
 use mathlib.Core.Bool.{Bool, false, cond}
-use mathlib.Core.List.{List, _∷_, List·Memᴰ, List·Memᴰ·cases-cons}
-use mathlib.Core.Logic.{_⊎_, inl, inr, _↔_}
+use mathlib.Core.Logic.{_⊎_, inl, inr}
 use mathlib.Core.Option.{none, some, Option·none-ne-some, Option·some-ne-none}
 use Prim.Native.Nat.{ℕ, zero, suc, _/_, _%_, _≤_, _<_}
 use native.Mathlib.Decide.{ℕ-discrete, decLt}
@@ -14,16 +13,12 @@ use Rattle.prefix.proofs.BitLaws.{digit-below}
 use Rattle.prefix.proofs.Order.{⊑-length, take-⊑, take-len, below-⊑, below-<, below-bit, below-trans, below-by-length}
 use Rattle.prefix.proofs.Common.{le-common, common-⊑}
 use Rattle.trie.specs.Trie.{Cell, Root, Kid, Inside, Fits, Points, Owned}
-use Rattle.trie.proofs.Pigeonhole.{Distinct, pigeonhole}
 use Rattle.trie.proofs.Next.{next-below}
 use Rattle.lru.specs.Slots.{Cache, entryNode, branchNode, cellOf, rootCell}
-use Rattle.lru.specs.Sound.{prefixAt, hopAt, pointer, childAt, cellAt, trie, Slot, Live, along, Ring, SoundCache, order}
+use Rattle.lru.specs.Sound.{prefixAt, hopAt, pointer, childAt, cellAt, trie, Live, along, Ring, SoundCache}
 use Rattle.lru.specs.Checks.{lengthAt, Hangs, Leads, BranchOk, RootOk, Checked, Walked}
-use Rattle.lru.specs.Results.{without}
 use Rattle.lru.proofs.Nodes.{Node, is-entry, is-branch, node, prefix-entry, prefix-branch, hop-entry, child-entry, child-branch, pointer-some, some-pointer, cell-root, cell-branch, child-cell}
 use Rattle.lru.proofs.Shape.{inside-cell, Pointed, pointed, hangs, root-full, branch-full, branch-short, prefix-slot}
-use Rattle.lru.proofs.Rings.{Chain, without-keep, without-length}
-use Rattle.lru.proofs.Orders.{ring-order, order-ring, in-slot, order-all, order-distinct}
 
 -- ---- one side of a branch
 
@@ -178,34 +173,3 @@ module _ {n : ℕ} {c : Cache} where
   -- the walk comes back to slot 0 after n + 1 steps
   pub walked-ring : Walked n (suc n) c → along c 0 (suc n) ≡ 0 → Ring n c
   walked-ring W e = record { within = λ k h. W .within k (omega arith); undone = λ k h. W .undone k (omega arith); others = λ k s. W .others k (s .0) (omega arith); back = e }
-
-  pub ring-walked : Ring n c → Walked n (suc n) c × (along c 0 (suc n) ≡ 0)
-  ring-walked R = (record { within = λ j h. R .within j (omega arith); undone = λ j h. R .undone j (omega arith); others = λ j l h. R .others j (l, omega arith) }, R .back)
-
--- ---- the ring goes through every slot once
-
-all-length : (n : ℕ) (l : List ℕ) → ((a : ℕ) → Slot n a → List·Memᴰ a l) → n ≤ length l
-all-length zero l h = omega arith
-all-length (suc n) l h = omega (arith, all-length n (without (suc n) l) (λ a s. without-keep (suc n) l a (λ z. omega arith) (h a (omega arith))), without-length (suc n) l (h (suc n) (omega arith)))
-
--- `next` leads from slot 0 through l and back, `prev` undoes each step, and l has each slot once and nothing else
-pub record EachOnce (n : ℕ) (c : Cache) (l : List ℕ) : Type 0 where
-  pub chain : Chain c 0 l 0
-  pub once : Distinct l
-  pub slots : (a : ℕ) → List·Memᴰ a l ↔ Slot n a
-
-pub ring-once : {n : ℕ} {c : Cache} → Ring n c → EachOnce n c (order n c)
-ring-once R = let o = ring-order R in record { chain = o .loop .chain; once = order-distinct o; slots = λ a. (in-slot o a, order-all o a) }
-
-pub once-ring : {n : ℕ} {c : Cache} {l : List ℕ} → EachOnce n c l → Ring n c
-once-ring {n} {c} {l} E = order-ring (record { loop = record { chain = E .chain; outside = outside }; below = λ a m. E .slots a .0 m .1; size = omega (arith, low, all-length n l (λ a s. E .slots a .1 s)) })
-  where
-    outside : ¬ List·Memᴰ 0 l
-    outside m = omega (arith, E .slots 0 .0 m .0)
-
-    below : (a : ℕ) → (a ≡ 0) ⊎ List·Memᴰ a l → a < suc n
-    below a (inl e) = omega arith
-    below a (inr m) = omega (arith, E .slots a .0 m .1)
-
-    low : suc (length l) ≤ suc n
-    low = pigeonhole (suc n) (0 ∷ l) (outside, E .once) (λ a m. below a (List·Memᴰ·cases-cons m))

@@ -7,24 +7,21 @@ use mathlib.Core.Option.{Option, none, some}
 use Prim.Native.Nat.{ℕ, suc, _≤_}
 use native.Mathlib.Decide.{ℕ-discrete}
 use native.Mathlib.Omega.{arith}
-use lib.ListN.{length, take, length-map}
-use lib.Seq.{take-at}
+use lib.ListN.{length, length-map}
 use Rattle.prefix.specs.Bits.{Bits}
 use Rattle.prefix.specs.Prefix.{contains, overlap, common}
 use Rattle.prefix.proofs.Booleans.{is-false, clash}
 use Rattle.prefix.proofs.Tests.{contains-⊑}
 use Rattle.model.specs.Lists.{_∈_, keep, first, omit, largest, Pairwise, p-nil, p-cons}
 use Rattle.model.specs.Model.{Entry}
-use Rattle.model.specs.Demands.{NoOverlap, NoLonger}
+use Rattle.model.specs.Demands.{NoOverlap}
 use Rattle.model.proofs.ListLaws.{le-largest, largest-in, Pairwise-map}
 use Rattle.trie.proofs.Pigeonhole.{Distinct}
 use Rattle.lru.specs.Slots.{Cache}
 use Rattle.lru.specs.Sound.{Slot, SoundCache, entryOf, order, entries}
-use Rattle.lru.specs.Results.{Short, Nearest, Free, without, others, Removed}
+use Rattle.lru.specs.Results.{Nearest, Free, without, others}
 use Rattle.lru.proofs.Shape.{no-overlap}
-use Rattle.lru.proofs.Rings.{without-length}
 use Rattle.lru.proofs.Orders.{ring-order, in-slot, order-all, order-distinct}
-use Rattle.lru.proofs.Using.{oldest-slot, oldest-last}
 
 -- ---- lists of slots
 
@@ -99,9 +96,6 @@ module _ {n : ℕ} {c : Cache} (S : SoundCache n c) where
   pub entries-free : (P : Bits) → ((E : Entry) → E ∈ entries n c → overlap P (E .prefix) ≡ false) → Free n c P
   entries-free P h k l = h (entryOf c k) (slot-entry k l)
 
-  pub entries-short : (X : Bits) → NoLonger (length X) (entries n c) → Short n c X
-  entries-short X h k l = h (entryOf c k) (slot-entry k l)
-
   -- a test that the entry of slot k passes and no other
   module _ (test : Entry → Bool) (k : ℕ) (h : Slot n k) (yes-k : test (entryOf c k) ≡ true) (only : (i : ℕ) → Slot n i → test (entryOf c i) ≡ true → i ≡ k) where
     pub first-entry : first test (entries n c) ≡ some (entryOf c k)
@@ -146,14 +140,3 @@ module _ {n : ℕ} {c : Cache} (S : SoundCache n c) where
 
         go : (x : ℕ) → (E : Entry) × (E ∈ entries n c) × (near E ≡ x) → x ≤ suc (common X (c .entry i))
         go x (E, m, e) = sub x E e (entry-slot E m)
-
--- the least recently used leaves: the others are the first n
-pub oldest-leaves : {n : ℕ} {c w : Cache} {place : ℕ → ℕ} → SoundCache (suc n) c → Removed n c w (c .prev 0) place → entries n w ≡ take n (entries (suc n) c)
-oldest-leaves {n} {c} {w} S R =
-    R .holds ∙ sym (ap (take n) (oldest-last S refl) ∙ take-at (others (suc n) c (c .prev 0)) (entryOf c (c .prev 0) ∷ []) n (omega (arith, size, without-length (c .prev 0) (order (suc n) c) there, ring-order (S .ring) .size)))
-  where
-    size : length (others (suc n) c (c .prev 0)) ≡ length (without (c .prev 0) (order (suc n) c))
-    size = length-map (without (c .prev 0) (order (suc n) c)) (entryOf c)
-
-    there : c .prev 0 ∈ order (suc n) c
-    there = order-all (ring-order (S .ring)) (c .prev 0) (oldest-slot S refl)

@@ -1,11 +1,8 @@
 -- Each change is a row of single stores, with the values that are read before them; and a cache is known by its values. Assumes nothing.
-use mathlib.Core.Path.{_≡_, refl, sym, ap, _∙_, fun-ext}
+use mathlib.Core.Path.{_≡_, refl, fun-ext}
 use mathlib.Core.Bool.{Bool, true, false, not}
 use Prim.Native.Nat.{ℕ}
-use native.Mathlib.Decide.{ℕ-discrete}
 use Rattle.prefix.specs.Bits.{Bits}
-use Rattle.trie.specs.Updates.{upd}
-use Rattle.trie.proofs.Stores.{upd-same, upd-other}
 use Rattle.lru.specs.Slots.{Cache, entryNode, branchNode, cellOf, rootCell, setEntry, setBranchLength, setChild, setUp, setPrev, setNext}
 use Rattle.lru.specs.Changes.{unlink, pushFront, moveLinks, insertFirst, hang, removeOnly, prune, moveEntry, moveBranch}
 
@@ -13,14 +10,6 @@ use Rattle.lru.specs.Changes.{unlink, pushFront, moveLinks, insertFirst,
 pub cache-path : {c w : Cache} → ((i : ℕ) → w .entry i ≡ c .entry i) → ((i : ℕ) → w .hop i ≡ c .hop i) → ((i : ℕ) → w .branchLength i ≡ c .branchLength i)
     → ((q : ℕ) → w .child q ≡ c .child q) → ((x : ℕ) → w .up x ≡ c .up x) → ((i : ℕ) → w .prev i ≡ c .prev i) → ((i : ℕ) → w .next i ≡ c .next i) → w ≡ c
 cache-path e h b d u p n = λ i. record { entry = fun-ext e i; hop = fun-ext h i; branchLength = fun-ext b i; child = fun-ext d i; up = fun-ext u i; prev = fun-ext p i; next = fun-ext n i }
-
--- the values f′ are f with that of i set to a
-pub set-value : {A : Type 0} (f f′ : ℕ → A) (i : ℕ) (a : A) → f′ i ≡ a → ((j : ℕ) → ¬ (j ≡ i) → f′ j ≡ f j) → (j : ℕ) → f′ j ≡ upd ℕ-discrete f i a j
-set-value f f′ i a same other j = go (ℕ-discrete j i)
-  where
-    go : Dec (j ≡ i) → f′ j ≡ upd ℕ-discrete f i a j
-    go (yes e) = ap f′ e ∙ same ∙ sym (upd-same ℕ-discrete f i a j e)
-    go (no n) = other j n ∙ sym (upd-other ℕ-discrete f i a j n)
 
 -- ---- the changes
 

@@ -46,9 +46,6 @@ pub plain-counts : {w : List ℕ} {m : ℕ} (nodes routes : ℕ) → Plain w m �
 unfolding putCounts
 plain-counts nodes routes h = plain-set 2 routes (λ q z. omega arith) (λ q z. omega arith) (plain-set 1 nodes (λ q z. omega arith) (λ q z. omega arith) h)
 
-pub plain-none : (w : List ℕ) → Plain w 0
-plain-none w = record { short = λ p a b. omega arith; celled = λ p a b. omega arith }
-
 module _ (w : List ℕ) (m : ℕ) (n : Node) (len : n .length ≤ 32) (cell : ¬ (n .up ≡ 1)) where
   pub plain-node : (p : ℕ) → Plain w m → Plain (putNode w p n) m
   unfolding putNode filledAt

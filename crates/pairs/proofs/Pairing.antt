@@ -60,6 +60,3 @@ legal-pair {table} {cache} S = record {
   covered = S .covered;
   entries-fit = omega (arith, entries-length (S .its-cache .slots), S .its-cache .shaped .entries-fit);
 }
-
-pub pair-of-legal : {table cache : List ℕ} → SoundTable table → SoundEntries cache → Legal (limitsOf table cache) (routes table) (entries cache) → SoundPair table cache
-pair-of-legal T C L = record { its-table = T; its-cache = C; covered = L .covered }

@@ -4,16 +4,16 @@ use mathlib.Core.Bool.{false}
 use mathlib.Core.List.{_++_}
 use Prim.Native.Nat.{ℕ, _+_, _-_, _*_, _/_, _^_, _≤_, _<_, min}
 use native.Mathlib.Omega.{arith}
-use lib.ListN.{length, take, drop, getD, replicate, length-append}
-use lib.Seq.{length-take-le, take-append-le, take-at, drop-at, take-take, getD-take}
+use lib.ListN.{length, take, getD, replicate, length-append}
+use lib.Seq.{length-take-le, take-append-le, take-at, take-take, getD-take}
 use lib.Dec.{leb}
 use lib.Pow.{shl-shr}
 use Rattle.prefix.specs.Bits.{Bits, bits}
 use Rattle.prefix.specs.Prefix.{contains, common, trimmed, prefixOf}
-use Rattle.prefix.proofs.BitLaws.{length-bits, take-bits, bits-inj, bits-zero, trim-bits, common-word-less, common-word-full, word-at, word-past}
-use Rattle.prefix.proofs.Common.{common-sym, common-take, common-take-both, common-of-take}
+use Rattle.prefix.proofs.BitLaws.{length-bits, take-bits, bits-zero, trim-bits, common-word-less, common-word-full, word-at, word-past}
+use Rattle.prefix.proofs.Common.{common-sym, common-take, common-of-take}
 use Rattle.prefix.proofs.Tests.{contains-common, contains-of-take}
-use Rattle.prefix.proofs.Trimming.{trimmed-append, trimmed-take, trimmed-all, trimmed-none, trimmed-longer, take-of-trimmed}
+use Rattle.prefix.proofs.Trimming.{trimmed-append, trimmed-all, trimmed-none, take-of-trimmed}
 use Rattle.prefix.specs.Addresses.{addressBits, ipv4Bits}
 use Rattle.prefix.specs.declared.Address.{Address}
 
@@ -63,24 +63,6 @@ common-cap n x a =
     common-sym (addressBits x) (take n (addressBits a)) ∙ common-take n (addressBits a) (addressBits x)
     ∙ ap (min n) (common-sym (addressBits a) (addressBits x))
 
--- ---- an address is known by its bits, and one that is trimmed by its first bits
-
-abbrev pub Fits : Address → Type 0
-Fits a = (a .high < 2 ^ 64) × (a .low < 2 ^ 64)
-
-pub address-inj : (a b : Address) → Fits a → Fits b → addressBits a ≡ addressBits b → a ≡ b
-address-inj a b ha hb e =
-    let p : bits 64 (a .high) ≡ bits 64 (b .high) =
-    sym (take-at (bits 64 (a .high)) (bits 64 (a .low)) 64 (length-bits 64 (a .high))) ∙ ap (take 64) e ∙ take-at (bits 64 (b .high)) (bits 64 (b .low)) 64 (length-bits 64 (b .high)) in
-    let q : bits 64 (a .low) ≡ bits 64 (b .low) =
-    sym (drop-at (bits 64 (a .high)) (bits 64 (a .low)) 64 (length-bits 64 (a .high))) ∙ ap (drop 64) e ∙ drop-at (bits 64 (b .high)) (bits 64 (b .low)) 64 (length-bits 64 (b .high)) in
-    ap₂ (λ (h l : ℕ). record { high = h; low = l }) (bits-inj 64 (a .high) (b .high) (ha .0) (hb .0) p) (bits-inj 64 (a .low) (b .low) (ha .1) (hb .1) q)
-
-pub trimmed-inj : (n : ℕ) (a b : Address) → Fits a → Fits b → addressBits a ≡ trimmed n (addressBits a) → addressBits b ≡ trimmed n (addressBits b)
-    → take n (addressBits a) ≡ take n (addressBits b) → a ≡ b
-trimmed-inj n a b ha hb ea eb e =
-    address-inj a b ha hb (ea ∙ trimmed-take n (addressBits a) (addressBits b) (length-address a ∙ sym (length-address b)) e ∙ sym eb)
-
 -- ---- IPv4: the first 32 bits
 
 pub length-ipv4 : (a : Address) → length (ipv4Bits a) ≡ 32
@@ -102,10 +84,6 @@ ipv4-zeros x =
     let e : bits 64 h ≡ trimmed 32 (bits 64 h) = ap (λ (k : ℕ). bits 64 (k * 2 ^ 32)) (sym (shl-shr x 32)) ∙ trim-bits 64 32 32 h refl in
     ap (λ (l : Bits). l ++ bits 64 0) e ∙ sym (trimmed-high (ipv4 x) 32 (omega arith))
 
--- an address that is trimmed to at most 32 bits is one of IPv4
-pub trimmed-is-ipv4 : (n : ℕ) (a : Address) → n ≤ 32 → addressBits a ≡ trimmed n (addressBits a) → addressBits a ≡ trimmed 32 (addressBits a)
-trimmed-is-ipv4 n a h e = e ∙ sym (trimmed-longer 32 n (addressBits a) h) ∙ ap (trimmed 32) (sym e)
-
 module _ (n : ℕ) (a x : Address) (h : n ≤ 32) where
   short : length (take n (addressBits a)) ≤ 32
   short = omega (arith, length-take-le n (addressBits a) (omega (arith, length-address a)))
@@ -115,10 +93,6 @@ module _ (n : ℕ) (a x : Address) (h : n ≤ 32) where
 
   pub common-32 : common (take n (addressBits a)) (take 32 (addressBits x)) ≡ common (take n (addressBits a)) (addressBits x)
   common-32 = common-of-take 32 (take n (addressBits a)) (addressBits x) short
-
--- where it is at most 32
-pub common-min-32 : (a x : Address) → common (take 32 (addressBits a)) (take 32 (addressBits x)) ≡ min 32 (common (addressBits a) (addressBits x))
-common-min-32 a x = omega (arith, common-take-both 32 32 (addressBits a) (addressBits x))
 
 -- what is proved of 128 bits is so of 32
 module _ (n u v : ℕ) (a x : Address) (h : n ≤ 32) (ea : take 32 (addressBits a) ≡ bits 32 u) (ex : take 32 (addressBits x) ≡ bits 32 v) where

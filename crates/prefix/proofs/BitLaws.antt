@@ -1,23 +1,20 @@
 -- Laws of the bits of a number, at any width, and what xor and leading zeros say of prefixes. Assumes nothing.
 use mathlib.Core.Path.{_≡_, refl, sym, ap, ap₂, _∙_}
-use mathlib.Core.Logic.{_↔_}
 use mathlib.Core.Bool.{Bool, true, false, cond, Bool·beq}
 use mathlib.Core.List.{_++_}
-use Prim.Native.Nat.{ℕ, zero, suc, _+_, _-_, _*_, _/_, _%_, _^_, _≤_, _<_, min}
+use Prim.Native.Nat.{ℕ, zero, suc, _+_, _-_, _*_, _/_, _%_, _^_, _≤_, _<_}
 use native.Mathlib.Nat.{pow-suc, mod-one, mod-lt, mod-eq-of-lt, zero-div, div-mul-le-self, le-trans, mul-le-mul-right, le-mul-of-pos-right, mul-assoc, mul-comm}
 use native.Mathlib.Numerals.{one-add}
 use native.Mathlib.Omega.{arith}
 use lib.ListN.{length, take, getD, replicate, List·getD-append}
 use lib.Seq.{getD-append-add}
-use lib.Dec.{leb}
-use lib.Bits.{bitXor, xor-shr, xor-mod, xor-lt, xor-comm}
+use lib.Bits.{bitXor, xor-shr, xor-mod, xor-lt}
 use lib.Count.{leadingZeros, under, leading-length, leading-unique}
-use lib.Pow.{pow-pos, pow-add, shr-shr, mod-pow-add, mod-mod-pow, field, high, low, shr-lt}
+use lib.Pow.{pow-pos, pow-add, shr-shr, mod-pow-add, mod-mod-pow, field, high, low}
 use Rattle.prefix.specs.Bits.{Bits, one?, digit, bits, value}
-use Rattle.prefix.specs.Prefix.{contains, common, prefixOf, trimmed}
-use Rattle.prefix.proofs.Common.{common-take, common-append-less, common-append-full, common-le}
-use Rattle.prefix.proofs.Tests.{contains-common}
-use Rattle.prefix.proofs.Trimming.{trimmed-take, trimmed-split, trimmed-append, trimmed-min}
+use Rattle.prefix.specs.Prefix.{common, prefixOf, trimmed}
+use Rattle.prefix.proofs.Common.{common-append-less, common-append-full, common-le}
+use Rattle.prefix.proofs.Trimming.{trimmed-take, trimmed-split}
 
 -- ---- digits
 
@@ -126,12 +123,6 @@ trim-shifts w n j k x h e =
 
 -- ---- the bridge to numbers: the first j bits agree where the quotients do
 
-pub agree-quotient : (w j k x y : ℕ) → j + k ≡ w → x < 2 ^ w → y < 2 ^ w → (prefixOf w x j ≡ prefixOf w y j) ↔ (x / 2 ^ k ≡ y / 2 ^ k)
-agree-quotient w j k x y e hx hy = (
-  (λ p. bits-inj j (x / 2 ^ k) (y / 2 ^ k) (shr-lt j k (rw e hx)) (shr-lt j k (rw e hy)) (sym (take-bits w j k x e) ∙ p ∙ take-bits w j k y e)),
-  (λ p. take-bits w j k x e ∙ ap (bits j) p ∙ sym (take-bits w j k y e)),
-)
-
 -- ---- the common prefix of two numbers, by the leading zeros of their `^`
 
 lead-digit : (k d r : ℕ) → d < 2 → r < 2 ^ k → leadingZeros (suc k) (d * 2 ^ k + r) ≡ under d (leadingZeros k r)
@@ -173,14 +164,6 @@ common-xor (suc w) x y =
 pub common-word : (w x y : ℕ) → x < 2 ^ w → y < 2 ^ w → common (bits w x) (bits w y) ≡ leadingZeros w (bitXor x y)
 common-word w x y hx hy = common-xor w x y ∙ ap (leadingZeros w) (mod-eq-of-lt (xor-lt w x y hx hy))
 
-pub prefix-word : (w n x a : ℕ) → n ≤ w → x < 2 ^ w → a < 2 ^ w → contains (prefixOf w a n) (bits w x) ≡ leb n (leadingZeros w (bitXor x a))
-prefix-word w n x a h hx ha =
-    contains-common n (bits w a) (bits w x) (rw length-bits h) ∙ ap (leb n) (common-word w a x ha hx ∙ ap (leadingZeros w) (xor-comm a x))
-
-pub common-prefix-word : (w n x a : ℕ) → x < 2 ^ w → a < 2 ^ w → common (prefixOf w a n) (bits w x) ≡ min n (leadingZeros w (bitXor x a))
-common-prefix-word w n x a hx ha =
-    common-take n (bits w a) (bits w x) ∙ ap (min n) (common-word w a x ha hx ∙ ap (leadingZeros w) (xor-comm a x))
-
 -- ---- words with more behind them
 
 module _ (w x y : ℕ) (r s : Bits) where
@@ -206,13 +189,6 @@ module _ (w x : ℕ) (r : Bits) where
   word-past i h =
       let e : i ≡ length (bits w x) + (i - w) = omega (arith, length-bits w x) in
       ap (λ (n : ℕ). getD (bits w x ++ r) n false) e ∙ getD-append-add (bits w x) r (i - w) false
-
-  -- the first n bits are those of the word, and those of what follows
-  pub trimmed-word : (n : ℕ) → trimmed n (bits w x ++ r) ≡ trimmed (min w n) (bits w x) ++ trimmed (n - w) r
-  trimmed-word n =
-      trimmed-append n (bits w x) r ∙ ap₂ (λ (m k : ℕ). trimmed m (bits w x) ++ trimmed (n - k) r) refl (length-bits w x)
-      ∙ ap (λ (l : Bits). l ++ trimmed (n - w) r)
-      (sym (ap (λ (m : ℕ). trimmed (min m n) (bits w x)) (sym (length-bits w x)) ∙ trimmed-min n (bits w x)))
 
 -- a number that is trimmed to n bits is known by its first n
 pub trimmed-inj : (w n a b : ℕ) → a < 2 ^ w → b < 2 ^ w → bits w a ≡ trimmed n (bits w a) → bits w b ≡ trimmed n (bits w b) → prefixOf w a n ≡ prefixOf w b n → a ≡ b

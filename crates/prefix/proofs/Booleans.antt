@@ -57,12 +57,6 @@ beq-sym true false = refl
 beq-sym false true = refl
 beq-sym false false = refl
 
-pub beq-differ : (a b : Bool) → Bool·beq a b ≡ false → b ≡ not a
-beq-differ true true e = absurd (true≢false e)
-beq-differ true false e = refl
-beq-differ false true e = refl
-beq-differ false false e = absurd (true≢false e)
-
 pub not-ne : (b : Bool) → ¬ (not b ≡ b)
 not-ne true e = false≢true e
 not-ne false e = true≢false e

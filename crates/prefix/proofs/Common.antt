@@ -56,10 +56,6 @@ common-take (suc n) (a ∷ x) (b ∷ y) = go (Bool·beq a b) (common-take n x y)
     go true e = ap suc e ∙ sym (suc-min-suc n (common x y))
     go false e = sym (min-zero (suc n))
 
-pub common-take-both : (m n : ℕ) (x y : Bits) → common (take m x) (take n y) ≡ min m (min n (common x y))
-common-take-both m n x y =
-    common-take m x (take n y) ∙ ap (min m) (common-sym x (take n y) ∙ common-take n y x ∙ ap (min n) (common-sym y x))
-
 -- lists of equal length with more behind them
 pub common-append-less : (p q r s : Bits) → length p ≡ length q → common p q < length p → common (p ++ r) (q ++ s) ≡ common p q
 unfolding common

@@ -86,13 +86,6 @@ below-is p b q = (to, from p q)
     from [] (c ∷ q) (⊑cons e h) = here e
     from (a ∷ p) (c ∷ q) (⊑cons e h) = there e (from p q h)
 
-pub below-dec : (p : Bits) (b : Bool) (q : Bits) → Dec (Below p b q)
-below-dec p b q = go (⊑-dec (p ++ (b ∷ [])) q)
-  where
-    go : Dec (p ++ (b ∷ []) ⊑ q) → Dec (Below p b q)
-    go (yes h) = yes (below-is p b q .1 h)
-    go (no n) = no (λ h. n (below-is p b q .0 h))
-
 pub below-⊑ : {p q : Bits} {b : Bool} → Below p b q → p ⊑ q
 below-⊑ (here e) = ⊑nil
 below-⊑ (there e h) = ⊑cons e (below-⊑ h)

@@ -1,19 +1,15 @@
 -- What a caller needs of the place that it is given: a line that was found lies in its block. Assumes nothing.
-use Prim.Native.Nat.{ℕ, _+_, _≤_, _<_}
+use Prim.Native.Nat.{ℕ, _≤_, _<_}
 use native.Mathlib.Omega.{arith}
 use mathlib.Core.Path.{_≡_, refl, sym, _∙_}
 use mathlib.Core.Bool.{Bool, true, false, cond}
 use mathlib.Core.List.{List}
 use lib.ListN.{length}
-use lib.Dec.{leb, ltb}
-use borrow.Author.Tests.{ltb-true, leb-true}
+use lib.Dec.{ltb}
+use borrow.Author.Tests.{ltb-true}
 use Rattle.script.specs.Blocks.{endOf, feed, feedAt}
-use Rattle.answers.specs.Answers.{room, Printed}
 use Rattle.script.specs.declared.Next.{Next}
 use Rattle.script.specs.declared.Next.the-variants.{At, None}
-use Rattle.answers.specs.declared.Said.{Said}
-use Rattle.answers.proofs.Booleans.{by-cases}
-use Rattle.answers.proofs.DecimalLaws.{line-fits}
 
 found : (t : Bool) (e : ℕ) {i : ℕ} → cond t (At e) None ≡ At i → (t ≡ true) × (e ≡ i)
 found true e h = (refl, cc)

@@ -1,8 +1,8 @@
 -- By computing: the worked run's lines as they are read, odd but good lines, and bad ones of each kind. Assumes nothing.
-use Prim.Native.Nat.{ℕ, _+_, _*_}
+use Prim.Native.Nat.{_+_}
 use Prim.Native.String.{String}
 use mathlib.Core.Path.{_≡_, refl}
-use mathlib.Core.List.{List, [], _∷_, _++_}
+use mathlib.Core.List.{List, [], _∷_}
 use lib.ListN.{replicate}
 use Rattle.answers.specs.Text.{text}
 use Rattle.script.specs.Lines.{digit, digits, valueFrom, number, onto, parts, both, numbers, four, address, only, call, fields, lineOf}

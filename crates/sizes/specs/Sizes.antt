@@ -1,5 +1,5 @@
 -- "Stores and sizes": the limits of both stores, the words that each needs, and the entries for a memory figure. Assumes nothing.
-use Prim.Native.Nat.{ℕ, zero, suc, _+_, _-_, _*_, _/_, _≤_}
+use Prim.Native.Nat.{ℕ, _+_, _-_, _*_, _/_, _≤_}
 use mathlib.Core.Bool.{cond, _||_}
 use lib.Dec.{ltb, eqb}
 use Rattle.sizes.specs.declared.Sizing.{Sizing}

@@ -1,6 +1,6 @@
 // How large the stores are. A memory figure is answered with its entries or refused by name, and never bent to a legal one.
 ghost use mathlib.Core.Path.{_≡_};
-ghost use Rattle.sizes.specs.Sizes.{LegalLimit, tableNeed, cacheNeed, setupFor, entriesFor, sizingNumber, sizingEntries, setupNumber};
+ghost use Rattle.sizes.specs.Sizes.{tableNeed, cacheNeed, setupFor, entriesFor, sizingNumber, sizingEntries, setupNumber};
 
 pub const LARGEST_LIMIT: u32 = 1_048_576;
 

@@ -18,7 +18,7 @@ use Rattle.trie.specs.Walk.{descent, cellAfter}
 use Rattle.trie.specs.Updates.{setHop, setChild, setUp, setNode, setSlot, hopAt, leafAt, onSide, spliceAt, forkAt}
 use Rattle.trie.proofs.Next.{next-below, below-next}
 use Rattle.trie.proofs.Stores.{upd-same, upd-other, set-hop, set-hop-other, slot-cell, slot-new, slot-old, fresh-cell}
-use Rattle.trie.proofs.Walking.{at-last, Landed}
+use Rattle.trie.proofs.Walking.{Landed}
 use Rattle.trie.proofs.Hops.{hop-sound, hop-kept, hop-inv}
 use Rattle.trie.proofs.Growing.{Joined, Grown, grown-sound, grown-branchy, branchy-old, full-old, held-old, held-inv, grown-put}
 
@@ -226,9 +226,6 @@ module _ {live live₁ live₂ : ℕ → Type 0} {n k : ℕ} (J : Joined live li
 -- ---- the whole of an announcement, in a table of m slots, by where the descent for P stopped
 
 module _ (m : ℕ) {v : Trie} (S : Sound (Dense m) v) (B : Branchy (Dense m) v) (P : Bits) (H : ℕ) where
-  pub announce-hop : (i : ℕ) → descent v P .last ≡ some i → length (v .prefix i) ≡ length P → Put (Dense m) (Dense m) v (hopAt v i H) P H
-  announce-hop i e l = let f = at-last S P i e l in put-hop S B i P H (f .0) (f .1)
-
   module _ (d : Landed (Dense m) v P (descent v P)) where
     pub announce-leaf : descent v P .beyond ≡ none → Put (Dense m) (Dense (suc m)) v (leafAt v (cellAfter v P (descent v P .last)) m P H) P H
     announce-leaf e = put-leaf (dense-joined m) S B _ (d .inside) P H (d .fits) (d .child ∙ e)

@@ -27,14 +27,6 @@ module _ {I A : Type 0} (dec : (x y : I) → Dec (x ≡ y)) (f : I → A) (k : I
 
 -- ---- one store
 
-pub set-node : (v : Trie) (k : ℕ) (p : Bits) (h : Option ℕ) → (setNode v k p h .prefix k ≡ p) × (setNode v k p h .hop k ≡ h)
-unfolding setNode
-set-node v k p h = (upd-same _ _ _ _ k refl, upd-same _ _ _ _ k refl)
-
-pub set-node-other : (v : Trie) (k : ℕ) (p : Bits) (h : Option ℕ) (i : ℕ) → ¬ (i ≡ k) → (setNode v k p h .prefix i ≡ v .prefix i) × (setNode v k p h .hop i ≡ v .hop i)
-unfolding setNode
-set-node-other v k p h i n = (upd-other _ _ _ _ i n, upd-other _ _ _ _ i n)
-
 pub set-hop : (v : Trie) (k : ℕ) (h : Option ℕ) → setHop v k h .hop k ≡ h
 unfolding setHop
 set-hop v k h = upd-same _ _ _ _ k refl
@@ -46,18 +38,6 @@ set-hop-other v k h i n = upd-other _ _ _ _ i n
 pub set-child : (v : Trie) (c : Cell) (o : Option ℕ) → setChild v c o .child c ≡ o
 unfolding setChild
 set-child v c o = upd-same _ _ _ _ c refl
-
-pub set-child-other : (v : Trie) (c : Cell) (o : Option ℕ) (e : Cell) → ¬ (e ≡ c) → setChild v c o .child e ≡ v .child e
-unfolding setChild
-set-child-other v c o e n = upd-other _ _ _ _ e n
-
-pub set-up : (v : Trie) (k : ℕ) (c : Cell) → setUp v k c .up k ≡ c
-unfolding setUp
-set-up v k c = upd-same _ _ _ _ k refl
-
-pub set-up-other : (v : Trie) (k : ℕ) (c : Cell) (i : ℕ) → ¬ (i ≡ k) → setUp v k c .up i ≡ v .up i
-unfolding setUp
-set-up-other v k c i n = upd-other _ _ _ _ i n
 
 -- ---- the up of what a cell points at
 
