@@ -1,23 +1,21 @@
 -- What a call moved, counted from zero, is added to the record that the caller lends: the same as counting from that record.
 -- Assumes nothing.
-use mathlib.Core.Path.{_≡_, refl, sym, _∙_, ap, subst}
-use mathlib.Core.List.{List, [], _∷_}
-use Prim.Native.Nat.{ℕ, zero, suc, _+_, _%_, _^_, _<_}
+use mathlib.Core.Path.{_≡_, refl, sym, _∙_, ap}
+use mathlib.Core.List.{List}
+use Prim.Native.Nat.{ℕ, zero, suc, _^_, _<_}
 use native.Mathlib.Omega.{arith}
-use native.Mathlib.Nat.{mod-eq-of-lt}
-use Rattle.tallies.specs.Counting.{plus, zeroTallies, afterHit, afterMiss, afterDrop, afterUpdate, sum, InRange, Added}
+use Rattle.tallies.specs.Counting.{plus, zeroTallies, sum, InRange, Added}
 use Rattle.tallies.specs.declared.Tallies.{Tallies}
 use Rattle.prefix.specs.Bits.{bits}
 use Rattle.slots.specs.Layout.{limitOf}
 use Rattle.table.specs.Tables.{routes}
 use Rattle.entries.specs.Caches.{entries}
 use Rattle.model.specs.Model as model
-use Rattle.model.specs.Model.{lookup, Answer, Limits, hit, miss, drop, done, refused}
+use Rattle.model.specs.Model.{lookup, Answer, hit, miss, drop, done, refused}
 use Rattle.model.specs.Routes.{Update as Change}
-use Rattle.model.specs.Runs.{State, Outcome, tallied, looked, accepted, judged, step}
+use Rattle.model.specs.Runs.{Outcome, tallied, looked, accepted, judged, step}
 use Rattle.updates.specs.declared.Action.{Action}
 use Rattle.updates.specs.declared.Update.{Update}
-use Rattle.pairs.specs.Pairs.{SoundPair}
 use Rattle.pairs.specs.States.{stateOf, Reached}
 use Rattle.lookup.specs.Promises.{LookedUp}
 use Rattle.refresh.specs.Promises.{UpdatedPair, Refused, UpdatePromise, Numbered}
@@ -86,7 +84,7 @@ lent-lookup table cache cache′ words t t′ address r told added = record {
   call = counted table cache cache′ t (added .was-in-range) address (told .call);
   is-number = told .is-number;
   are-words = told .are-words;
-  is-record = added .is-sum ∙ ap (sum t) (told .is-moved);
+  is-record = added .is-sum ∙ ap (sum t) (told .is-record);
   promise = λ S. look-from table cache cache′ t (added .was-in-range) address (told .call) (told .promise S);
   refused = λ n. ap (sum t) (told .refused n) ∙ sym (adds-none t (added .was-in-range));
 }
@@ -152,7 +150,7 @@ lent-update table cache table′ cache′ words t t′ address length action r t
   means = told .means;
   is-number = told .is-number;
   are-words = told .are-words;
-  is-record = added .is-sum ∙ ap (sum t) (told .is-moved);
+  is-record = added .is-sum ∙ ap (sum t) (told .is-record);
   promise = update-from table cache table′ cache′ t (added .was-in-range) (told .update) (told .call) (told .promise);
   numbered = numbered-from table cache table′ cache′ t (added .was-in-range) (told .update) (told .call) (told .numbered);
 }

@@ -17,7 +17,8 @@ use Rattle.lookup.specs.declared.Answer.{Answer}
 use Rattle.lookup.specs.declared.Answer.the-variants.{Hit, Miss, Drop, Unsound}
 use Rattle.lookup.specs.declared.Looked.{Looked}
 use Rattle.refresh.specs.declared.Updated.{Updated}
-use Rattle.c_library.specs.Words.{lookWords, lookNumber, Means}
+use Rattle.updates.specs.Updates.{Means}
+use Rattle.c_library.specs.Words.{lookWords, lookNumber}
 use Rattle.c_library.specs.Promises.{Answers, LookTold, UpdateTold}
 
 -- ---- a check: 1 or 0
@@ -50,7 +51,7 @@ look-told {table} {cache} {cache′} {address = address} call zero promise refus
       call = call;
       is-number = number;
       are-words = words;
-      is-moved = refl;
+      is-record = refl;
       promise = λ S. subst (λ t. LookedUp table cache cache′ t address call) zero (promise S);
       refused = λ n. refused n ∙ zero;
     }
@@ -64,7 +65,7 @@ update-told {table} {cache} {table′} {cache′} u call means zero promise numb
   means = means;
   is-number = refl;
   are-words = refl;
-  is-moved = refl;
+  is-record = refl;
   promise = subst (λ t. UpdatePromise table cache table′ cache′ t u call) zero promise;
   numbered = subst (λ t. Numbered t u call) zero numbered;
 }

@@ -1,7 +1,6 @@
 -- What the functions of the C library promise: the proved call's promise, of the words and the record that C lends. Assumes nothing.
 use mathlib.Core.Path.{_≡_}
 use mathlib.Core.List.{List, [], _∷_}
-use mathlib.Core.Logic.{_↔_}
 use Prim.Native.Nat.{ℕ}
 use Rattle.sizes.specs.Sizes.{setupNumber}
 use Rattle.sizes.specs.declared.Setup.{Setup}
@@ -16,7 +15,8 @@ use Rattle.lookup.specs.Promises.{LookedUp, NothingCounted}
 use Rattle.refresh.specs.Promises.{UpdatePromise, Numbered}
 use Rattle.lookup.specs.declared.Looked.{Looked}
 use Rattle.refresh.specs.declared.Updated.{Updated}
-use Rattle.c_library.specs.Words.{lookWords, lookNumber, Means}
+use Rattle.updates.specs.Updates.{Means}
+use Rattle.c_library.specs.Words.{lookWords, lookNumber}
 use Rattle.c_library.specs.declared.Told.{Told}
 
 -- ---- set-up and checks
@@ -65,20 +65,9 @@ pub record LentUpdate (table cache table′ cache′ : List ℕ) (t t′ : Talli
 
 -- ---- before what a call moved is added: from a zero record
 
-pub record LookTold (table cache cache′ : List ℕ) (address : ℕ) (words : List ℕ) (r : Told) : Type 0 where
-  pub call : Looked
-  pub is-number : r .number ≡ lookNumber (call .answer)
-  pub are-words : words ≡ lookWords (call .answer)
-  pub is-moved : r .moved ≡ call .tallies
-  pub promise : SoundPair table cache → LookedUp table cache cache′ zeroTallies address call
-  pub refused : NothingCounted zeroTallies call
+abbrev pub LookTold : List ℕ → List ℕ → List ℕ → ℕ → List ℕ → Told → Type 0
+LookTold table cache cache′ address words r = LentLookup table cache cache′ zeroTallies (r .moved) address (r .number) words
 
-pub record UpdateTold (table cache table′ cache′ : List ℕ) (address length : ℕ) (action : Action) (words : List ℕ) (r : Told) : Type 0 where
-  pub update : Update
-  pub call : Updated
-  pub means : Means address length action update
-  pub is-number : r .number ≡ call .number
-  pub are-words : words ≡ (call .removed ∷ call .changed ∷ [])
-  pub is-moved : r .moved ≡ call .tallies
-  pub promise : UpdatePromise table cache table′ cache′ zeroTallies update call
-  pub numbered : Numbered zeroTallies update call
+abbrev pub UpdateTold : List ℕ → List ℕ → List ℕ → List ℕ → ℕ → ℕ → Action → List ℕ → Told → Type 0
+UpdateTold table cache table′ cache′ address length action words r =
+    LentUpdate table cache table′ cache′ zeroTallies (r .moved) address length action (r .number) words

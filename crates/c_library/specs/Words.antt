@@ -1,11 +1,6 @@
--- Answers and updates as the words of C. Assumes nothing.
-use mathlib.Core.Path.{_≡_}
+-- Answers as the words of C. Assumes nothing.
 use mathlib.Core.List.{List, [], _∷_}
 use Prim.Native.Nat.{ℕ}
-use Rattle.prefix.specs.Bits.{bits}
-use Rattle.prefix.specs.Addresses.{ipv4Bits}
-use Rattle.updates.specs.declared.Action.{Action}
-use Rattle.updates.specs.declared.Update.{Update}
 use Rattle.lookup.specs.declared.Answer.{Answer}
 use Rattle.lookup.specs.declared.Answer.the-variants.{Hit, Miss, Drop, Unsound}
 
@@ -22,9 +17,3 @@ lookNumber (Hit hop) = 0
 lookNumber (Miss hop address length nodes) = 0
 lookNumber (Drop nodes) = 0
 lookNumber Unsound = 9
-
--- the update record of a prefix that C gives as an address of 32 bits and a length
-pub record Means (address length : ℕ) (action : Action) (u : Update) : Type 0 where
-  pub its-address : ipv4Bits (u .prefix .address) ≡ bits 32 address
-  pub its-length : u .prefix .length ≡ length
-  pub its-action : u .action ≡ action

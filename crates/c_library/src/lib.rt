@@ -6,15 +6,13 @@
 use lookup::Answer;
 use tallies::Tallies;
 use updates::Action;
-use updates::Prefix;
-use updates::Update;
 ghost use mathlib.Core.Path.{_≡_};
 ghost use mathlib.Core.Bool.{cond};
 ghost use mathlib.Core.List.{[], _∷_};
 ghost use Rattle.sizes.specs.Sizes.{entriesFor, sizingNumber, sizingEntries};
 ghost use Rattle.tallies.specs.Counting.{difference as between, heldSum};
 ghost use Rattle.updates.specs.declared.Action.the-variants.{Announce, Withdraw};
-ghost use Rattle.c_library.specs.Words.{lookWords, lookNumber, Means};
+ghost use Rattle.c_library.specs.Words.{lookWords, lookNumber};
 ghost use Rattle.c_library.specs.Promises.{TableReady, CacheReady, TableSound, PairSound, LookTold, UpdateTold, LentLookup, LentUpdate};
 
 // ---- sizes and set-up
@@ -201,25 +199,13 @@ fn update(
 ) -> Told
     ensures { λ r. ⌜ UpdateTold (now (table .entry)) (now (cache .entry)) (now (table .exit)) (now (cache .exit)) address length action (now (answer .exit)) r ⌝ }
 {
-    let u = update_of(address, length, action);
+    let u = updates::update_of(address, length, action);
     let updated = refresh::update_pair(table, cache, tallies::zero(), u);
     let moved = updated.tallies;
     *answer = [updated.removed, updated.changed];
     Told {
         number: updated.number,
         moved,
-    }
-}
-
-fn update_of(address: u32, length: u32, action: Action) -> Update
-    ensures { λ r. ⌜ Means address length action r ⌝ }
-{
-    Update {
-        prefix: Prefix {
-            address: prefix::from_ipv4(address),
-            length,
-        },
-        action,
     }
 }
 

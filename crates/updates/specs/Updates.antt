@@ -5,7 +5,7 @@ use mathlib.Core.List.{List}
 use Prim.Native.Nat.{ℕ}
 use lib.ListN.{take}
 use lib.Dec.{ltb, eqb}
-use Rattle.prefix.specs.Bits.{Bits}
+use Rattle.prefix.specs.Bits.{Bits, bits}
 use Rattle.model.specs.Routes as model
 use Rattle.model.specs.Model.{refusal, tooLong, badHop, highestHop}
 use Rattle.prefix.specs.Addresses.{ipv4Bits}
@@ -29,6 +29,12 @@ prefixOfUpdate u = take (u .prefix .length) (ipv4Bits (u .prefix .address))
 
 abbrev pub updateOf : Update → model.Update
 updateOf u = record { prefix = prefixOfUpdate u; action = actionOf (u .action) }
+
+-- the update record of a prefix that is given as an address of 32 bits and a length
+pub record Means (address length : ℕ) (action : Action) (u : Update) : Type 0 where
+  pub its-address : ipv4Bits (u .prefix .address) ≡ bits 32 address
+  pub its-length : u .prefix .length ≡ length
+  pub its-action : u .action ≡ action
 
 -- ---- the refusals that are given first
 

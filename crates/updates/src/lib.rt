@@ -2,7 +2,7 @@
 use prefix::Address;
 use verdicts::Verdict;
 ghost use mathlib.Core.Path.{_≡_};
-ghost use Rattle.updates.specs.Updates.{TableUpdated, firstRefusal};
+ghost use Rattle.updates.specs.Updates.{Means, TableUpdated, firstRefusal};
 ghost use Rattle.verdicts.specs.Verdicts.{verdictNumber};
 
 pub struct Prefix {
@@ -18,6 +18,19 @@ pub enum Action {
 pub struct Update {
     pub prefix: Prefix,
     pub action: Action,
+}
+
+// The update of the first `length` bits of an IPv4 address.
+pub fn update_of(address: u32, length: u32, action: Action) -> Update
+    ensures { λ r. ⌜ Means address length action r ⌝ }
+{
+    Update {
+        prefix: Prefix {
+            address: prefix::from_ipv4(address),
+            length,
+        },
+        action,
+    }
 }
 
 // The number of a verdict: 0, 1, 2, 3, 4 or 9.
