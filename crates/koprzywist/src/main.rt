@@ -4,106 +4,22 @@
 use answers::Said;
 use libc::STDIN_FILENO;
 use libc::STDOUT_FILENO;
-use lookup::Answer;
-use script::Line;
 use script::Next;
 use tallies::Tallies;
-use updates::Action;
-use updates::Prefix;
-use updates::Update;
+ghost use Prim.Native.Nat.{_+_};
+ghost use mathlib.Core.Path.{_≡_};
 ghost use lib.ListN.{length};
-ghost use Rattle.koprzywist.specs.Steps.{Onward};
+ghost use lib.Dec.{ltb};
+ghost use Rattle.answers.specs.Answers.{room};
+ghost use Rattle.script.specs.Blocks.{feedAt};
+ghost use Rattle.script.specs.declared.Next.the-variants.{None};
+ghost use Rattle.koprzywist.specs.Blocks.{Waits, Roomy, Told, Taken, Stepped, Lines};
 
 const TABLE_LIMIT: u32 = 512;
 
 const CACHE_LIMIT: u32 = 3;
 
 const LONGEST_LINE: usize = 64;
-
-// ---- one line
-
-struct Answered {
-    said: Said,
-    tallies: Tallies,
-}
-
-// An update of the first `length` bits of an address.
-fn update(
-    table: &mut [u32],
-    cache: &mut [u32],
-    t: Tallies,
-    address: u32,
-    length: u32,
-    action: Action,
-) -> Answered {
-    let u = Update {
-        prefix: Prefix {
-            address: prefix::from_ipv4(address),
-            length,
-        },
-        action,
-    };
-    let r = refresh::update_pair(table, cache, t, u);
-    let after = r.tallies;
-    if r.number == 0 {
-        let said = Said::Done(r.removed, r.changed);
-        return Answered {
-            said,
-            tallies: after,
-        };
-    }
-    Answered {
-        said: Said::Refused(r.number),
-        tallies: after,
-    }
-}
-
-fn look(table: &[u32], cache: &mut [u32], t: Tallies, address: u32) -> Answered {
-    let r = lookup::look_up(table, cache, t, address);
-    let answer = r.answer;
-    let said = said_of(answer);
-    let after = r.tallies;
-    Answered {
-        said,
-        tallies: after,
-    }
-}
-
-fn said_of(answer: Answer) -> Said {
-    match answer {
-        Answer::Hit(hop) => Said::Hit(hop),
-        Answer::Miss(hop, stored, length, examined) => Said::Miss(hop, stored, length, examined),
-        Answer::Drop(examined) => Said::Drop(examined),
-        Answer::Unsound => Said::Refused(9),
-    }
-}
-
-// The whole line is read before any call.
-fn answer_line(table: &mut [u32], cache: &mut [u32], t: Tallies, line: &[u8]) -> Answered {
-    match script::read_line(line) {
-        Line::Announce(address, length, hop) => update(
-            table,
-            cache,
-            t,
-            address,
-            length,
-            Action::Announce(hop),
-        ),
-        Line::Withdraw(address, length) => update(
-            table,
-            cache,
-            t,
-            address,
-            length,
-            Action::Withdraw,
-        ),
-        Line::Look(address) => look(table, cache, t, address),
-        Line::Bad => Answered {
-            said: Said::Bad,
-            tallies: t,
-        },
-    }
-}
 
 // ---- a block of lines
 
@@ -117,26 +33,19 @@ struct Progress {
 }
 
 // Whether there is no room for another line.
-fn is_full(size: usize, waiting: usize) -> bool {
+fn is_full(size: usize, waiting: usize) -> bool
+    ensures { λ r. ⌜ r ≡ ltb size (waiting + room) ⌝ }
+{
     if size < LONGEST_LINE {
         return true;
     }
     size - LONGEST_LINE < waiting
 }
 
-// What waits is written once there is no room for another line.
-fn say(out: &mut [u8], r: Progress, said: Said) -> Progress {
-    let mut p = r;
-    if is_full(out.len(), r.waiting) {
-        p = flush(out, r);
-    }
-    let waiting = answers::write_line(out, p.waiting, said);
-    p.waiting = waiting;
-    p
-}
-
 // After a write that failed nothing more is written: what was printed has no gap.
-fn flush(out: &[u8], r: Progress) -> Progress {
+fn flush(out: &[u8], r: Progress) -> Progress
+    ensures { λ p. ⌜ Waits r p 0 ⌝ }
+{
     let n = r.waiting;
     let mut p = r;
     p.waiting = 0;
@@ -150,6 +59,25 @@ fn flush(out: &[u8], r: Progress) -> Progress {
     p
 }
 
+// What waits is written once there is no room for another line.
+fn make_room(out: &[u8], r: Progress) -> Progress
+    ensures { λ p. ⌜ Roomy (length (now (out .entry))) r p ⌝ }
+{
+    if is_full(out.len(), r.waiting) {
+        return flush(out, r);
+    }
+    r
+}
+
+fn say(out: &mut [u8], r: Progress, said: Said) -> Progress
+    ensures { λ p. ⌜ Told (now (out .entry)) (now (out .exit)) said r p ⌝ }
+{
+    let mut p = make_room(out, r);
+    let waiting = answers::write_line(out, p.waiting, said);
+    p.waiting = waiting;
+    p
+}
+
 // One whole line, without its line feed; the rest of one that is too long is `bad` once.
 fn whole_line(
     table: &mut [u32],
@@ -157,14 +85,16 @@ fn whole_line(
     out: &mut [u8],
     line: &[u8],
     r: Progress,
-) -> Progress {
+) -> Progress
+    ensures { λ p. ⌜ Taken (now (table .entry)) (now (cache .entry)) (now (out .entry)) (now (table .exit)) (now (cache .exit)) (now (out .exit)) (now (line .entry)) r p ⌝ }
+{
     let mut p = r;
     if r.long {
         p.long = false;
         return say(out, p, Said::Bad);
     }
     let before = r.tallies;
-    let a = answer_line(table, cache, before, line);
+    let a = interpreter::answer_line(table, cache, before, line);
     let after = a.tallies;
     let said = a.said;
     p.tallies = after;
@@ -185,17 +115,11 @@ fn next_line(
     at: usize,
     r: Progress,
 ) -> Step
-    ensures { λ s. ⌜ Onward (length (now (block .entry))) at s ⌝ }
+    ensures { λ s. ⌜ Stepped (now (block .entry)) (now (table .entry)) (now (cache .entry)) (now (out .entry)) (now (table .exit)) (now (cache .exit)) (now (out .exit)) at r s ⌝ }
 {
     let Next::At(feed) = script::next_feed(block, at) else {
         return Step::End;
     };
-    if block.len() <= feed {
-        return Step::End;
-    }
-    if feed < at {
-        return Step::End;
-    }
     let p = whole_line(table, cache, out, &block[at..feed], r);
     Step::Line(feed + 1, p)
 }
@@ -213,7 +137,9 @@ fn whole_lines(
     out: &mut [u8],
     block: &[u8],
     r: Progress,
-) -> Reached {
+) -> Reached
+    ensures { λ e. ⌜ Lines (now (block .entry)) (now (table .entry)) (now (cache .entry)) (now (out .entry)) r (e .at) (now (table .exit)) (now (cache .exit)) (now (out .exit)) (e .progress) × (feedAt (now (block .entry)) (e .at) ≡ None) ⌝ }
+{
     let mut at: usize = 0;
     let mut p = r;
     let end = loop {

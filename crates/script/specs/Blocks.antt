@@ -1,5 +1,5 @@
 -- Where a line of a block of bytes ends. Assumes nothing.
-use Prim.Native.Nat.{ℕ, _+_}
+use Prim.Native.Nat.{ℕ, _+_, _^_, _<_}
 use Prim.Native.Char.{code}
 use mathlib.Core.Bool.{cond}
 use mathlib.Core.List.{List, [], _∷_}
@@ -23,3 +23,8 @@ feed = code "\n"
 -- the first line feed at or after a place
 unfoldable pub feedAt : List ℕ → ℕ → Next
 feedAt l from = cond (ltb (endOf feed l from) (length l)) (At (endOf feed l from)) None
+
+-- there is a place after it
+abbrev pub Passable : Next → Type 0
+Passable (At feed) = feed + 1 < 2 ^ 64
+Passable None = Unit {0}

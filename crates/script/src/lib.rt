@@ -2,7 +2,7 @@
 ghost use mathlib.Core.Path.{_≡_};
 ghost use Prim.Native.Nat.{_+_, _*_, _≤_};
 ghost use Rattle.script.specs.Lines.{parts, space, fields, lineOf};
-ghost use Rattle.script.specs.Blocks.{feedAt};
+ghost use Rattle.script.specs.Blocks.{feedAt, Passable};
 ghost use Rattle.script.specs.Reading.{partAt, octetAt, addressAt, afterAt, called};
 
 const LONGEST: usize = 64;
@@ -202,6 +202,7 @@ pub enum Next {
 // The first line feed of a block, at or after a place.
 pub fn next_feed(block: &[u8], from: usize) -> Next
     ensures { λ r. ⌜ r ≡ feedAt (now (block .entry)) from ⌝ }
+    ensures { λ r. ⌜ Passable r ⌝ }
 {
     let mut i = from;
     while i < block.len() {

@@ -1,4 +1,4 @@
--- `koprzywist::flush` is safe. Assumes nothing.
+-- `koprzywist::flush` meets its contract. Assumes nothing.
 use Rattle.koprzywist.proofs.Parts.{taken}
 use borrow.Author.Needs.{needs}
 use Rattle.koprzywist.proofs.flush.Statement.{statement}

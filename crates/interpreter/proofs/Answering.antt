@@ -1,0 +1,137 @@
+-- A call's answer as it is said, and the promises of the calls as those of a line. Assumes nothing.
+use mathlib.Core.Path.{_≡_, refl, sym, _∙_, ap, subst}
+use mathlib.Core.List.{List}
+use mathlib.Core.Option.{some}
+use Prim.Native.Nat.{ℕ, zero, suc}
+use Rattle.prefix.specs.Bits.{bits}
+use Rattle.prefix.specs.Addresses.{ipv4Bits}
+use Rattle.tallies.specs.declared.Tallies.{Tallies}
+use Rattle.model.specs.Routes.{announce, withdraw}
+use Rattle.model.specs.Runs.{look, update}
+use Rattle.pairs.specs.Pairs.{SoundPair}
+use Rattle.updates.specs.Updates.{actionOf, Means}
+use Rattle.updates.specs.declared.Action.{Action}
+use Rattle.updates.specs.declared.Update.{Update}
+use Rattle.lookup.specs.Promises.{answerOf, ClearedIn, LookedUp}
+use Rattle.lookup.specs.declared.Answer.{Answer}
+use Rattle.lookup.specs.declared.Answer.the-variants.{Hit, Miss, Drop, Unsound}
+use Rattle.lookup.specs.declared.Looked.{Looked}
+use Rattle.refresh.specs.Promises.{updatedNumber, UpdatePromise}
+use Rattle.refresh.specs.declared.Updated.{Updated}
+use Rattle.script.specs.declared.Line.{Line}
+use Rattle.script.specs.declared.Line.the-variants.{Announce, Withdraw, Look, Bad}
+use Rattle.answers.specs.declared.Said.{Said}
+use Rattle.answers.specs.declared.Said.the-variants as said
+use Rattle.interpreter.specs.Lines.{meant, Cleared, CallAnswered, LineAnswered, saidOf, saidOfUpdate}
+use Rattle.interpreter.specs.declared.Answered.{Answered}
+
+-- ---- a lookup
+
+meant-look : (a : Answer) → meant (saidOf a) ≡ some (answerOf a)
+meant-look (Hit hop) = refl
+meant-look (Miss hop address length examined) = refl
+meant-look (Drop examined) = refl
+meant-look Unsound = refl
+
+cleared-look : (a : Answer) → ClearedIn a → Cleared (saidOf a)
+cleared-look (Hit hop) is = is
+cleared-look (Miss hop address length examined) is = is
+cleared-look (Drop examined) is = is
+cleared-look Unsound is = is
+
+pub look-answered : {table cache cache′ : List ℕ} {t : Tallies} {address : ℕ} {said : Said} (call : Looked)
+    → (SoundPair table cache → LookedUp table cache cache′ t address call)
+    → said ≡ saidOf (call .answer)
+    → SoundPair table cache
+    → CallAnswered table cache table cache′ t (look (bits 32 address)) (record { said = said; tallies = call .tallies })
+look-answered call promise is S =
+    let L = promise S in
+    record {
+      answer = ap meant is ∙ meant-look (call .answer) ∙ ap some (L .answer);
+      cleared = subst Cleared (sym is) (cleared-look (call .answer) (L .cleared));
+      state = L .state;
+      sound = L .sound;
+      table-kept = (refl, refl);
+      cache-kept = L .kept;
+    }
+
+-- ---- an update
+
+meant-update : (number removed changed : ℕ) → meant (saidOfUpdate number removed changed) ≡ some (updatedNumber number removed changed)
+meant-update zero removed changed = refl
+meant-update (suc k) removed changed = refl
+
+cleared-update : (number removed changed : ℕ) → Cleared (saidOfUpdate number removed changed)
+cleared-update zero removed changed = tt
+cleared-update (suc k) removed changed = tt
+
+-- the update record means the model's call
+same-call : {address length : ℕ} {action : Action} {u : Update} → Means address length action u
+    → update (ipv4Bits (u .prefix .address)) (u .prefix .length) (actionOf (u .action)) ≡ update (bits 32 address) length (actionOf action)
+same-call means =
+    let p = means .its-address in
+    let q = means .its-length in
+    let r = ap actionOf (means .its-action) in
+    cc
+
+pub update-answered : {table cache table′ cache′ : List ℕ} {t : Tallies} {address length : ℕ} {action : Action} {said : Said} (u : Update) (call : Updated)
+    → Means address length action u
+    → UpdatePromise table cache table′ cache′ t u call
+    → said ≡ saidOfUpdate (call .number) (call .removed) (call .changed)
+    → SoundPair table cache
+    → CallAnswered table cache table′ cache′ t (update (bits 32 address) length (actionOf action)) (record { said = said; tallies = call .tallies })
+update-answered {table} {cache} {table′} {cache′} {t} {said = said} u call means promise is S =
+    let U = promise .sound-pair S in
+    subst (λ x. CallAnswered table cache table′ cache′ t x (record { said = said; tallies = call .tallies })) (same-call means)
+    (record {
+      answer = ap meant is ∙ meant-update (call .number) (call .removed) (call .changed) ∙ ap some (U .answer);
+      cleared = subst Cleared (sym is) (cleared-update (call .number) (call .removed) (call .changed));
+      state = U .state;
+      sound = U .sound;
+      table-kept = U .table-kept;
+      cache-kept = U .cache-kept;
+    })
+
+-- ---- by the case
+
+pub said-hit : {a : Answer} (hop : ℕ) → a ≡ Hit hop → said.Hit hop ≡ saidOf a
+said-hit hop is = sym (ap saidOf is)
+
+pub said-miss : {a : Answer} (hop address length examined : ℕ) → a ≡ Miss hop address length examined → said.Miss hop address length examined ≡ saidOf a
+said-miss hop address length examined is = sym (ap saidOf is)
+
+pub said-drop : {a : Answer} (examined : ℕ) → a ≡ Drop examined → said.Drop examined ≡ saidOf a
+said-drop examined is = sym (ap saidOf is)
+
+pub said-unsound : {a : Answer} → a ≡ Unsound → said.Refused 9 ≡ saidOf a
+said-unsound is = sym (ap saidOf is)
+
+pub said-done : {number : ℕ} (removed changed : ℕ) → number ≡ 0 → said.Done removed changed ≡ saidOfUpdate number removed changed
+said-done removed changed is = sym (ap (λ n. saidOfUpdate n removed changed) is)
+
+pub said-refused : (number removed changed : ℕ) → ¬ (number ≡ 0) → said.Refused number ≡ saidOfUpdate number removed changed
+said-refused zero removed changed not-so = absurd (not-so refl)
+said-refused (suc k) removed changed not-so = refl
+
+module _ {table cache table′ cache′ : List ℕ} {t : Tallies} {line : Line} {r : Answered} where
+  pub announced : (a n hop : ℕ) → line ≡ Announce a n hop
+      → (SoundPair table cache → CallAnswered table cache table′ cache′ t (update (bits 32 a) n (announce hop)) r)
+      → LineAnswered table cache table′ cache′ t line r
+  announced a n hop is P = subst (λ l. LineAnswered table cache table′ cache′ t l r) (sym is) P
+
+  pub withdrawn : (a n : ℕ) → line ≡ Withdraw a n
+      → (SoundPair table cache → CallAnswered table cache table′ cache′ t (update (bits 32 a) n withdraw) r)
+      → LineAnswered table cache table′ cache′ t line r
+  withdrawn a n is P = subst (λ l. LineAnswered table cache table′ cache′ t l r) (sym is) P
+
+  pub looked-up : (a : ℕ) → line ≡ Look a
+      → (SoundPair table cache → CallAnswered table cache table′ cache′ t (look (bits 32 a)) r)
+      → LineAnswered table cache table′ cache′ t line r
+  looked-up a is P = subst (λ l. LineAnswered table cache table′ cache′ t l r) (sym is) P
+
+-- the line that was read
+pub as-read : (table cache table′ cache′ : List ℕ) (t : Tallies) {line k : Line} (r : Answered) → line ≡ k → LineAnswered table cache table′ cache′ t line r → LineAnswered table cache table′ cache′ t k r
+as-read table cache table′ cache′ t r is A = subst (λ l. LineAnswered table cache table′ cache′ t l r) is A
+
+pub nothing-done : (table cache : List ℕ) (t : Tallies) {line : Line} → line ≡ Bad → LineAnswered table cache table cache t line (record { said = said.Bad; tallies = t })
+nothing-done table cache t is = subst (λ l. LineAnswered table cache table cache t l (record { said = said.Bad; tallies = t })) (sym is) (refl, refl, refl)
