@@ -6,8 +6,8 @@ use Prim.Native.Nat.{ℕ, _%_, _≤_, _<_}
 use Rattle.prefix.specs.Bits.{Bits}
 use Rattle.prefix.specs.Prefix.{common}
 use Rattle.lru.specs.Sound.{Live}
+use Rattle.lru.specs.Changes as walking
 use Rattle.lru.specs.Changes.{passes, towards, walk, find}
-use Rattle.lru.proofs.Walking as walking
 use Rattle.slots.specs.Layout.{slotWord, word, entriesHeld, cacheOf}
 use Rattle.entries.specs.Caches.{SoundEntries}
 use Rattle.entries.specs.declared.find.Turn.{Turn}

@@ -21,7 +21,8 @@ use Rattle.lru.specs.Changes.{pushFront, insertFirst, hang, insertAt}
 use Rattle.lru.specs.Results as results
 use Rattle.lru.proofs.Stores.{first-stores, hang-stores}
 use Rattle.lru.proofs.Shape.{hangs}
-use Rattle.lru.proofs.Walking as walking
+use Rattle.lru.specs.Changes.{On}
+use Rattle.lru.proofs.Walking.{find-ends}
 use Rattle.lru.proofs.Holding.{entries-free}
 use Rattle.lru.proofs.Inserting.{insert-first, insert-found}
 use Rattle.slots.specs.Layout.{limitOf, entriesHeld, upIn, cacheOf, Room, Shaped}
@@ -39,8 +40,8 @@ use Rattle.entries.proofs.Lows.{sound-low}
 -- ---- the node where the walk stops, and its cell
 
 module _ (w : List ℕ) (a : Address) (held : ℕ) (are-held : held ≡ entriesHeld w) (some-held : ¬ (held ≡ 0)) (x : ℕ) (walked : Walked w (ipv4Bits a) x) where
-  stop : SoundEntries w → walking.On (entriesHeld w) (cacheOf w) (ipv4Bits a) x
-  stop S = rw (walked .found S (omega arith)) (walking.find-ends (S .slots) (ipv4Bits a) (all-short w a) (omega arith) .0)
+  stop : SoundEntries w → On (entriesHeld w) (cacheOf w) (ipv4Bits a) x
+  stop S = rw (walked .found S (omega arith)) (find-ends (S .slots) (ipv4Bits a) (all-short w a) (omega arith) .0)
 
   unsound : {P : Bits} {H : ℕ} → ¬ SoundEntries w → Hung w w P H
   unsound f = record { kept = kept-same _ w; ready = λ S free. absurd (f S) }
@@ -125,7 +126,7 @@ fork-is c s own other cell x m false P H eo et ex =
     rw (eo, e) (hang-stores c s cell true m P H x ex)
 
 module _ (w w′ u : List ℕ) (a : Address) (r n hop s x cell m own : ℕ) (here : Beside w (ipv4Bits a) s x cell) (short : n ≤ 32) (is-common : CommonWith w (x / 2) (ipv4Bits a) m) where
-  live : SoundEntries w → walking.On (entriesHeld w) (cacheOf w) (ipv4Bits a) x
+  live : SoundEntries w → On (entriesHeld w) (cacheOf w) (ipv4Bits a) x
   live S = stop w a (entriesHeld w) refl (λ z. omega (arith, here .some-held)) x (here .walked) S
 
   module _ (S : SoundEntries w) (free : results.Free (entriesHeld w) (cacheOf w) (firstBits a n)) where

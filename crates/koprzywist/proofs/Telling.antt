@@ -5,10 +5,9 @@ use mathlib.Core.List.{List}
 use mathlib.Core.Logic.{_⊎_, inl, inr}
 use Prim.Native.Nat.{ℕ, _+_, _-_, _<_, _≤_}
 use native.Mathlib.Omega.{arith}
-use lib.ListN.{length}
 use lib.Dec.{ltb}
 use borrow.Author.Tests.{lt-ltb, le-ltb, ltb-true, ltb-false}
-use Rattle.answers.specs.Answers.{room, Printed}
+use Rattle.answers.specs.Answers.{room}
 use Rattle.answers.specs.declared.Said.{Said}
 use Rattle.answers.specs.declared.Said.the-variants.{Bad}
 use Rattle.answers.proofs.Booleans.{by-cases}
@@ -42,12 +41,6 @@ roomy-kept size r full is not-full = record {
 }
 
 -- ---- a line that was told
-
-pub told : {out out′ : List ℕ} {said : Said} {r : Progress} (q : Progress) (waiting : ℕ)
-    → Roomy (length out) r q
-    → Printed said (q .waiting) out out′ waiting
-    → Told out out′ said r (record { tallies = q .tallies; long = q .long; waiting = waiting; ok = q .ok })
-told q waiting R P = record { roomy = q; is-roomy = R; printed = P; waits = record { same-tallies = refl; same-long = refl; is-waiting = refl } }
 
 module _ {out out′ : List ℕ} {said : Said} {r p : Progress} (T : Told out out′ said r p) where
   told-tallies : p .tallies ≡ r .tallies

@@ -22,11 +22,11 @@ use Rattle.trie.proofs.Stores.{upd-same, upd-other}
 use Rattle.trie.proofs.Next.{next-below}
 use Rattle.lru.specs.Slots.{Cache, entryNode, branchNode, cellOf, rootCell, setEntry, setBranchLength, setChild, setUp, setPrev, setNext}
 use Rattle.lru.specs.Sound.{prefixAt, hopAt, pointer, childAt, cellAt, trie, Live, InUse, SoundCache, entryOf, order}
-use Rattle.lru.specs.Changes.{passes, find, pushFront, insertFirst, hang, insertAt}
+use Rattle.lru.specs.Changes.{passes, find, pushFront, insertFirst, hang, insertAt, On}
 use Rattle.lru.specs.Results.{Short, Free, Inserted}
 use Rattle.lru.proofs.Nodes.{prefix-entry, prefix-branch, hop-entry, hop-branch, child-entry, child-branch, pointer-some, pointer-none, cell-root, cell-branch, child-cell, prefix-same, hop-same, child-same}
 use Rattle.lru.proofs.Shape.{inside-cell, cell-inside, cell-low, Pointed, pointed, hangs, prefix-slot}
-use Rattle.lru.proofs.Walking.{On, miss-or-entry, find-ends}
+use Rattle.lru.proofs.Walking.{miss-or-entry, find-ends}
 use Rattle.lru.proofs.Orders.{Order, ring-order, order-ring, order-same, in-slot, order-insert}
 use Rattle.lru.proofs.Using.{push-trie, same-trie, entry-path, map-same, entries-of}
 

@@ -6,7 +6,8 @@ use Prim.Native.Nat.{ℕ, zero, suc, _≤_, _<_}
 use native.Mathlib.Decide.{ℕ-discrete}
 use native.Mathlib.Omega.{arith}
 use lib.ListN.{length, length-map}
-use Rattle.trie.proofs.Moving.{ren, ren-s, ren-other}
+use Rattle.trie.specs.Updates.{renumbered}
+use Rattle.trie.proofs.Moving.{renumbered-s, renumbered-other}
 use Rattle.trie.proofs.Pigeonhole.{Distinct, all-there}
 use Rattle.lru.specs.Slots.{Cache}
 use Rattle.lru.specs.Sound.{Slot, along, Ring, stretch, order}
@@ -247,12 +248,12 @@ pub hole-same : {n : ℕ} {c : Cache} {h : ℕ} {l : List ℕ} (w : Cache) → w
 hole-same {n} {c} {h} {l} w e f o = record { loop = loop-same c w l e f (o .loop); below = o .below; size = o .size; gone = o .gone; slot = o .slot }
 
 -- slot s goes to the hole h
-pub hole-move : {n : ℕ} {c : Cache} {h : ℕ} {l : List ℕ} → Hole n c h l → (s : ℕ) → Slot (suc n) s → ¬ (s ≡ h) → Hole n (moveLinks c s h) s (map (ren s h) l)
+pub hole-move : {n : ℕ} {c : Cache} {h : ℕ} {l : List ℕ} → Hole n c h l → (s : ℕ) → Slot (suc n) s → ¬ (s ≡ h) → Hole n (moveLinks c s h) s (map (renumbered s h) l)
 hole-move {n} {c} {h} {l} o s ls ne = record {
   loop = move-loop c l s h (o .loop) there (λ e. omega (arith, o .slot .0)) (o .gone);
-  below = λ a q. below a (Memᴰ·of-map (ren s h) l q);
-  size = length-map l (ren s h) ∙ o .size;
-  gone = λ q. gone (Memᴰ·of-map (ren s h) l q);
+  below = λ a q. below a (Memᴰ·of-map (renumbered s h) l q);
+  size = length-map l (renumbered s h) ∙ o .size;
+  gone = λ q. gone (Memᴰ·of-map (renumbered s h) l q);
   slot = ls;
 }
   where
@@ -271,19 +272,19 @@ hole-move {n} {c} {h} {l} o s ls ne = record {
     there : List·Memᴰ s l
     there = pick (List·Memᴰ·cases-cons (all-slots (suc n) (h ∷ l) (o .gone, loop-distinct (o .loop)) (λ q. out (List·Memᴰ·cases-cons q)) (λ a q. low a (List·Memᴰ·cases-cons q)) (ap suc (o .size)) s ls))
 
-    below : (a : ℕ) → (x : ℕ) × List·Memᴰ x l × (ren s h x ≡ a) → a ≤ suc n
+    below : (a : ℕ) → (x : ℕ) × List·Memᴰ x l × (renumbered s h x ≡ a) → a ≤ suc n
     below a (x, q, e) = go (ℕ-discrete x s)
       where
         go : Dec (x ≡ s) → a ≤ suc n
-        go (yes y) = let w : a ≡ h = sym e ∙ ap (ren s h) y ∙ ren-s s h in omega (arith, o .slot .1)
-        go (no y) = let w : a ≡ x = sym e ∙ ren-other s h x y in rw w (o .below x q)
+        go (yes y) = let w : a ≡ h = sym e ∙ ap (renumbered s h) y ∙ renumbered-s s h in omega (arith, o .slot .1)
+        go (no y) = let w : a ≡ x = sym e ∙ renumbered-other s h x y in rw w (o .below x q)
 
-    gone : (x : ℕ) × List·Memᴰ x l × (ren s h x ≡ s) → ⊥
+    gone : (x : ℕ) × List·Memᴰ x l × (renumbered s h x ≡ s) → ⊥
     gone (x, q, e) = go (ℕ-discrete x s)
       where
         go : Dec (x ≡ s) → ⊥
-        go (yes y) = ne (sym e ∙ ap (ren s h) y ∙ ren-s s h)
-        go (no y) = y (sym (ren-other s h x y) ∙ e)
+        go (yes y) = ne (sym e ∙ ap (renumbered s h) y ∙ renumbered-s s h)
+        go (no y) = y (sym (renumbered-other s h x y) ∙ e)
 
 -- the hole is the last slot
 pub hole-end : {n : ℕ} {c : Cache} {l : List ℕ} → Hole n c (suc n) l → Order n c l

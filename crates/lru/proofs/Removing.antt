@@ -16,7 +16,8 @@ use Rattle.model.specs.Lists.{_∈_}
 use Rattle.trie.specs.Trie.{Cell, Root, Kid, Trie, Inside, Points, Sound, Branchy}
 use Rattle.trie.proofs.Descent.{root-least}
 use Rattle.trie.proofs.Stores.{upd-same, upd-other}
-use Rattle.trie.proofs.Moving.{Renamed, renamed-sound, renamed-branchy, agrees-self, agrees-renamed, ren, ren-s, ren-other, moved-renamed}
+use Rattle.trie.specs.Updates.{renumbered}
+use Rattle.trie.proofs.Moving.{Renamed, renamed-sound, renamed-branchy, agrees-self, agrees-renamed, renumbered-s, renumbered-other, moved-renamed}
 use Rattle.lru.specs.Slots.{Cache, entryNode, branchNode, cellOf, rootCell, setEntry, setBranchLength, setChild, setUp, setPrev, setNext}
 use Rattle.lru.specs.Sound.{prefixAt, pointer, childAt, cellAt, trie, Slot, Live, InUse, SoundCache, entryOf, order}
 use Rattle.lru.specs.Changes.{unlink, moveLinks, removeOnly, prune, moveEntry, moveBranch, fillEntry, fillSlot, removeAt}
@@ -40,23 +41,23 @@ record Open (b : Cache) (l : List ℕ) (live : ℕ → Type 0) (n h : ℕ) (plac
 module _ {b : Cache} {l : List ℕ} {live live′ : ℕ → Type 0} {n h : ℕ} {place : ℕ → ℕ} {c : Cache} (O : Open b l live n h place c) (s : ℕ) (ls : Slot (suc n) s) (ne : ¬ (s ≡ h))
     (one : ¬ live 1) (is : live (entryNode s)) (free : ¬ live (entryNode h)) (ok : live (branchNode h) → take (c .branchLength h) (c .entry s) ≡ take (c .branchLength h) (c .entry h))
     (old : (a : ℕ) → live a → ¬ (a ≡ entryNode s) → live′ a) (new : live′ (entryNode h)) (inv : (a : ℕ) → live′ a → (live a × (¬ (a ≡ entryNode s))) ⊎ (a ≡ entryNode h)) where
-  renamed : Renamed live live′ (trie c) (trie (moveEntry c s h)) (ren (entryNode s) (entryNode h))
+  renamed : Renamed live live′ (trie c) (trie (moveEntry c s h)) (renumbered (entryNode s) (entryNode h))
   renamed = moved-renamed (O .pointers) is (entry-moved live c s h (O .hole .slot .0) one free ok) old new inv
 
-  moved-entry : (i : ℕ) → ¬ (i ≡ h) → entryOf (moveEntry c s h) (ren s h i) ≡ entryOf c i
+  moved-entry : (i : ℕ) → ¬ (i ≡ h) → entryOf (moveEntry c s h) (renumbered s h i) ≡ entryOf c i
   unfolding moveEntry moveLinks setEntry setChild setUp setPrev setNext
   moved-entry i not-h = go (ℕ-discrete i s)
     where
-      go : Dec (i ≡ s) → entryOf (moveEntry c s h) (ren s h i) ≡ entryOf c i
-      go (yes e) = rw (e, ren-s s h) (entry-path (upd-same _ _ _ _ h refl) (upd-same _ _ _ _ h refl))
-      go (no n) = rw (ren-other s h i n) (entry-path (upd-other _ _ _ _ i not-h) (upd-other _ _ _ _ i not-h))
+      go : Dec (i ≡ s) → entryOf (moveEntry c s h) (renumbered s h i) ≡ entryOf c i
+      go (yes e) = rw (e, renumbered-s s h) (entry-path (upd-same _ _ _ _ h refl) (upd-same _ _ _ _ h refl))
+      go (no n) = rw (renumbered-other s h i n) (entry-path (upd-other _ _ _ _ i not-h) (upd-other _ _ _ _ i not-h))
 
-  open-entry : Open b l live′ n s (λ i. ren s h (place i)) (moveEntry c s h)
+  open-entry : Open b l live′ n s (λ i. renumbered s h (place i)) (moveEntry c s h)
   unfolding moveEntry setEntry setChild setUp
   open-entry = record {
     pointers = renamed-sound (O .pointers) renamed;
     branchy = renamed-branchy (O .pointers) renamed (O .branchy);
-    hole = subst (λ (q : List ℕ). Hole n (moveEntry c s h) s q) (map-map (ren s h) place l)
+    hole = subst (λ (q : List ℕ). Hole n (moveEntry c s h) s q) (map-map (renumbered s h) place l)
         (hole-move (hole-same (setUp (setChild (setEntry c h (c .entry s) (c .hop s)) (c .up (entryNode s)) (entryNode h)) (entryNode h) (c .up (entryNode s))) refl refl (O .hole)) s ls ne);
     moved = λ i m. moved-entry (place i) (mem-ne (Memᴰ·map place m) (O .hole .gone)) ∙ O .moved i m;
   }
@@ -69,7 +70,7 @@ moved-same c s t n = upd-same _ _ _ _ t refl ∙ sym (upd-other ℕ-discrete (c 
 module _ {b : Cache} {l : List ℕ} {live live′ : ℕ → Type 0} {n s : ℕ} {place : ℕ → ℕ} {c : Cache} (O : Open b l live n s place c) (h : ℕ) (pos : 0 < h) (one : ¬ live 1)
     (is : live (branchNode s)) (free : ¬ live (branchNode h)) (same : c .entry h ≡ c .entry s)
     (old : (a : ℕ) → live a → ¬ (a ≡ branchNode s) → live′ a) (new : live′ (branchNode h)) (inv : (a : ℕ) → live′ a → (live a × (¬ (a ≡ branchNode s))) ⊎ (a ≡ branchNode h)) where
-  branched : Renamed live live′ (trie c) (trie (moveBranch c s h)) (ren (branchNode s) (branchNode h))
+  branched : Renamed live live′ (trie c) (trie (moveBranch c s h)) (renumbered (branchNode s) (branchNode h))
   branched = moved-renamed (O .pointers) is (branch-moved live c s h (O .pointers) (O .branchy) (O .hole .slot .0) pos one is free same) old new inv
 
   open-branch : Open b l live′ n s place (moveBranch c s h)
@@ -121,25 +122,25 @@ module _ {n : ℕ} {c : Cache} (S : SoundCache (suc n) c) (k j : ℕ) (b : Bool)
   kept ne h = relocated S k j b lk is-up pos h ne
 
   -- slot i is s where they are one
-  ren-self : (s t i : ℕ) → s ≡ t → ren s t i ≡ i
-  ren-self s t i e = go (ℕ-discrete i s)
+  renumbered-self : (s t i : ℕ) → s ≡ t → renumbered s t i ≡ i
+  renumbered-self s t i e = go (ℕ-discrete i s)
     where
-      go : Dec (i ≡ s) → ren s t i ≡ i
-      go (yes z) = ap (ren s t) z ∙ ren-s s t ∙ sym e ∙ sym z
-      go (no n) = ren-other s t i n
+      go : Dec (i ≡ s) → renumbered s t i ≡ i
+      go (yes z) = ap (renumbered s t) z ∙ renumbered-s s t ∙ sym e ∙ sym z
+      go (no n) = renumbered-other s t i n
 
   -- no slot is moved where the free slot is the one to be moved
-  open-self : {live : ℕ → Type 0} {h s : ℕ} {place : ℕ → ℕ} {w : Cache} → s ≡ h → Open c l live n h place w → Open c l live n s (λ i. ren s h (place i)) w
+  open-self : {live : ℕ → Type 0} {h s : ℕ} {place : ℕ → ℕ} {w : Cache} → s ≡ h → Open c l live n h place w → Open c l live n s (λ i. renumbered s h (place i)) w
   open-self {live} {h} {s} {place} {w} e O =
-      let f : place ≡ (λ i. ren s h (place i)) = fun-ext (λ i. sym (ren-self s h (place i) e)) in
+      let f : place ≡ (λ i. renumbered s h (place i)) = fun-ext (λ i. sym (renumbered-self s h (place i) e)) in
       subst (λ (g : ℕ → ℕ). Open c l live n s g w) f (subst (λ (x : ℕ). Open c l live n x place w) (sym e) O)
 
   -- the entry of slot j goes to slot k
-  O₂ : Open c l (Left (suc n) j j) n j (ren j k) (fillEntry c₁ j k)
+  O₂ : Open c l (Left (suc n) j j) n j (renumbered j k) (fillEntry c₁ j k)
   unfolding fillEntry
   O₂ = go (ℕ-discrete j k)
     where
-      go : Dec (j ≡ k) → Open c l (Left (suc n) j j) n j (ren j k) (cond (eqb j k) c₁ (moveEntry c₁ j k))
+      go : Dec (j ≡ k) → Open c l (Left (suc n) j j) n j (renumbered j k) (cond (eqb j k) c₁ (moveEntry c₁ j k))
       go (yes e) = rw (eq-eqb j k e) (open-self e (subst (λ (x : ℕ). Open c l (Left (suc n) x j) n k (λ i. i) c₁) (sym e) O₁))
       go (no ne) = rw (ne-eqb j k ne)
           (open-entry O₁ j (omega (arith, lj)) ne (λ l. omega (arith, l .0 .0)) ((omega (arith, lj), λ z. ne (omega arith)), λ z. omega arith) (λ l. l .0 .1 refl)

@@ -5,9 +5,9 @@ use mathlib.Core.Logic.{_⊎_, inl, inr}
 use Prim.Native.Nat.{ℕ, suc}
 use native.Mathlib.Decide.{ℕ-discrete}
 use lib.ListN.{length}
-use Rattle.trie.specs.Updates.{upd}
 use Rattle.trie.proofs.Stores.{upd-same, upd-other}
-use Rattle.trie.proofs.Moving.{ren, ren-s, ren-other}
+use Rattle.trie.specs.Updates.{renumbered, upd}
+use Rattle.trie.proofs.Moving.{renumbered-s, renumbered-other}
 use Rattle.trie.proofs.Pigeonhole.{Distinct}
 use Rattle.lru.specs.Slots.{Cache, setPrev, setNext}
 use Rattle.lru.specs.Changes.{unlink, pushFront, moveLinks}
@@ -286,26 +286,26 @@ push-loop c l k L nz nl = record { chain = (upd-same _ _ _ _ 0 refl, upd-other _
 -- ---- slot s gets the number t
 
 -- one link function, by its inverse
-ren-link : (f g h : ℕ → ℕ) (s t x : ℕ) → h ≡ upd ℕ-discrete (upd ℕ-discrete f t (f s)) (g s) t → ¬ (t ≡ g s) → ¬ (f s ≡ s) → ¬ (x ≡ t) → f (g s) ≡ s → g (f x) ≡ x → h (ren s t x) ≡ ren s t (f x)
-ren-link f g h s t x d tg fs xt gs fx = subst (λ (h : ℕ → ℕ). h (ren s t x) ≡ ren s t (f x)) (sym d) (go (ℕ-discrete x s))
+renumbered-link : (f g h : ℕ → ℕ) (s t x : ℕ) → h ≡ upd ℕ-discrete (upd ℕ-discrete f t (f s)) (g s) t → ¬ (t ≡ g s) → ¬ (f s ≡ s) → ¬ (x ≡ t) → f (g s) ≡ s → g (f x) ≡ x → h (renumbered s t x) ≡ renumbered s t (f x)
+renumbered-link f g h s t x d tg fs xt gs fx = subst (λ (h : ℕ → ℕ). h (renumbered s t x) ≡ renumbered s t (f x)) (sym d) (go (ℕ-discrete x s))
   where
     H : ℕ → ℕ
     H = upd ℕ-discrete (upd ℕ-discrete f t (f s)) (g s) t
 
-    sub : ¬ (x ≡ s) → Dec (x ≡ g s) → H x ≡ ren s t (f x)
-    sub n (yes e) = upd-same _ _ _ _ x e ∙ sym (ap (ren s t) (ap f e ∙ gs) ∙ ren-s s t)
-    sub n (no m) = upd-other _ _ _ _ x m ∙ upd-other _ _ _ _ x xt ∙ sym (ren-other s t (f x) (λ q. m (sym fx ∙ ap g q)))
+    sub : ¬ (x ≡ s) → Dec (x ≡ g s) → H x ≡ renumbered s t (f x)
+    sub n (yes e) = upd-same _ _ _ _ x e ∙ sym (ap (renumbered s t) (ap f e ∙ gs) ∙ renumbered-s s t)
+    sub n (no m) = upd-other _ _ _ _ x m ∙ upd-other _ _ _ _ x xt ∙ sym (renumbered-other s t (f x) (λ q. m (sym fx ∙ ap g q)))
 
-    go : Dec (x ≡ s) → H (ren s t x) ≡ ren s t (f x)
-    go (yes e) = rw (e, ren-s s t) (upd-other _ _ _ _ t tg ∙ upd-same _ _ _ _ t refl ∙ sym (ren-other s t (f s) fs))
-    go (no n) = rw (ren-other s t x n) (sub n (ℕ-discrete x (g s)))
+    go : Dec (x ≡ s) → H (renumbered s t x) ≡ renumbered s t (f x)
+    go (yes e) = rw (e, renumbered-s s t) (upd-other _ _ _ _ t tg ∙ upd-same _ _ _ _ t refl ∙ sym (renumbered-other s t (f s) fs))
+    go (no n) = rw (renumbered-other s t x n) (sub n (ℕ-discrete x (g s)))
 
-pub move-loop : (c : Cache) (l : List ℕ) (s t : ℕ) → Loop c l → List·Memᴰ s l → ¬ (t ≡ 0) → ¬ List·Memᴰ t l → Loop (moveLinks c s t) (map (ren s t) l)
+pub move-loop : (c : Cache) (l : List ℕ) (s t : ℕ) → Loop c l → List·Memᴰ s l → ¬ (t ≡ 0) → ¬ List·Memᴰ t l → Loop (moveLinks c s t) (map (renumbered s t) l)
 unfolding moveLinks setPrev setNext
-move-loop c l s t L m nz nl = record { chain = subst (λ (y : ℕ). Chain (moveLinks c s t) y (map (ren s t) l) y) zz (chain-map c (moveLinks c s t) (ren s t) 0 l 0 (L .chain) nx pv); outside = λ h. out (Memᴰ·of-map (ren s t) l h) }
+move-loop c l s t L m nz nl = record { chain = subst (λ (y : ℕ). Chain (moveLinks c s t) y (map (renumbered s t) l) y) zz (chain-map c (moveLinks c s t) (renumbered s t) 0 l 0 (L .chain) nx pv); outside = λ h. out (Memᴰ·of-map (renumbered s t) l h) }
   where
-    zz : ren s t 0 ≡ 0
-    zz = ren-other s t 0 (λ e. mem-ne m (L .outside) (sym e))
+    zz : renumbered s t 0 ≡ 0
+    zz = renumbered-other s t 0 (λ e. mem-ne m (L .outside) (sym e))
 
     none : ¬ List·Memᴰ t (0 ∷ l)
     none h = go (List·Memᴰ·cases-cons h)
@@ -330,15 +330,15 @@ move-loop c l s t L m nz nl = record { chain = subst (λ (y : ℕ). Chain (moveL
     in-ring (inl h) = List·Memᴰ·tail h
     in-ring (inr e) = List·Memᴰ·head e
 
-    nx : (x : ℕ) → List·Memᴰ x (0 ∷ l) → (moveLinks c s t) .next (ren s t x) ≡ ren s t (c .next x)
-    nx x h = ren-link (c .next) (c .prev) ((moveLinks c s t) .next) s t x refl (λ e. none (subst (λ (i : ℕ). List·Memᴰ i (0 ∷ l)) (sym e) (pred-in c 0 l 0 s (L .chain) m))) ns (mem-ne h none) fb (back-forth c 0 l 0 x (L .chain) h)
+    nx : (x : ℕ) → List·Memᴰ x (0 ∷ l) → (moveLinks c s t) .next (renumbered s t x) ≡ renumbered s t (c .next x)
+    nx x h = renumbered-link (c .next) (c .prev) ((moveLinks c s t) .next) s t x refl (λ e. none (subst (λ (i : ℕ). List·Memᴰ i (0 ∷ l)) (sym e) (pred-in c 0 l 0 s (L .chain) m))) ns (mem-ne h none) fb (back-forth c 0 l 0 x (L .chain) h)
 
-    pv : (x : ℕ) → List·Memᴰ x l ⊎ (x ≡ 0) → (moveLinks c s t) .prev (ren s t x) ≡ ren s t (c .prev x)
-    pv x h = ren-link (c .prev) (c .next) ((moveLinks c s t) .prev) s t x refl (λ e. none (subst (λ (i : ℕ). List·Memᴰ i (0 ∷ l)) (sym e) (in-ring (succ-in c 0 l 0 s (L .chain) (List·Memᴰ·tail m))))) ps (mem-ne (in-ring h) none) bf (forth-back c 0 l 0 x (L .chain) h)
+    pv : (x : ℕ) → List·Memᴰ x l ⊎ (x ≡ 0) → (moveLinks c s t) .prev (renumbered s t x) ≡ renumbered s t (c .prev x)
+    pv x h = renumbered-link (c .prev) (c .next) ((moveLinks c s t) .prev) s t x refl (λ e. none (subst (λ (i : ℕ). List·Memᴰ i (0 ∷ l)) (sym e) (in-ring (succ-in c 0 l 0 s (L .chain) (List·Memᴰ·tail m))))) ps (mem-ne (in-ring h) none) bf (forth-back c 0 l 0 x (L .chain) h)
 
-    out : (x : ℕ) × List·Memᴰ x l × (ren s t x ≡ 0) → ⊥
+    out : (x : ℕ) × List·Memᴰ x l × (renumbered s t x ≡ 0) → ⊥
     out (x, h, e) = go (ℕ-discrete x s)
       where
         go : Dec (x ≡ s) → ⊥
-        go (yes q) = nz (sym (ren-s s t) ∙ ap (ren s t) (sym q) ∙ e)
-        go (no n) = mem-ne h (L .outside) (sym (ren-other s t x n) ∙ e)
+        go (yes q) = nz (sym (renumbered-s s t) ∙ ap (renumbered s t) (sym q) ∙ e)
+        go (no n) = mem-ne h (L .outside) (sym (renumbered-other s t x n) ∙ e)

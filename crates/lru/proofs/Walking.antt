@@ -17,8 +17,8 @@ use Rattle.trie.specs.Trie.{Cell, Root, Kid, Fits}
 use Rattle.trie.proofs.Next.{next-below}
 use Rattle.trie.proofs.Descent.{through}
 use Rattle.lru.specs.Slots.{Cache, entryNode, branchNode, cellOf, rootCell}
-use Rattle.lru.specs.Sound.{prefixAt, pointer, cellAt, trie, Slot, Live, InUse, SoundCache}
-use Rattle.lru.specs.Changes.{passes, towards, walk, find}
+use Rattle.lru.specs.Sound.{prefixAt, pointer, cellAt, trie, Slot, InUse, SoundCache}
+use Rattle.lru.specs.Changes.{passes, towards, walk, find, On}
 use Rattle.lru.specs.Results.{Short, Nearest}
 use Rattle.lru.proofs.Nodes.{Node, is-entry, is-branch, node, prefix-entry, prefix-branch, pointer-some, child-cell, cell-root, cell-branch}
 use Rattle.lru.proofs.Shape.{pointed, hangs, root-full, branch-full, inside-cell, apart, branch-short, branch-length, prefix-slot}
@@ -56,11 +56,6 @@ module _ (c : Cache) (X : Bits) where
   walk-end (suc f) x e = rw e
 
 -- ---- where it is
-
--- the node x is live, and what X goes on with would hang below x's cell
-pub record On (n : ℕ) (c : Cache) (X : Bits) (x : ℕ) : Type 0 where
-  pub live : Live n x
-  pub fits : Fits (trie c) (cellAt (c .up x)) X
 
 module _ {n : ℕ} {c : Cache} (S : SoundCache n c) (X : Bits) where
   on-cell : (q : ℕ) → InUse n q → 0 < c .child q → Fits (trie c) (cellAt q) X → On n c X (c .child q)

@@ -5,6 +5,8 @@ use lib.ListN.{length, getD}
 use lib.Dec.{leb, eqb}
 use Rattle.prefix.specs.Bits.{Bits, one?}
 use Rattle.prefix.specs.Prefix.{common}
+use Rattle.trie.specs.Trie.{Fits}
+use Rattle.lru.specs.Sound.{cellAt, trie, Live}
 use Rattle.lru.specs.Slots.{Cache, entryNode, branchNode, cellOf, rootCell, setEntry, setBranchLength, setChild, setUp, setPrev, setNext}
 
 -- ---- the walk by an address
@@ -25,6 +27,11 @@ walk c X (suc steps) x = cond (passes c X x) (walk c X steps (c .child (towards 
 -- from the root, with a step for each length from 0 to X's
 unfoldable pub find : Cache → Bits → ℕ
 find c X = walk c X (suc (length X)) (c .child rootCell)
+
+-- the node x is live, and what X goes on with would hang below x's cell
+pub record On (n : ℕ) (c : Cache) (X : Bits) (x : ℕ) : Type 0 where
+  pub live : Live n x
+  pub fits : Fits (trie c) (cellAt (c .up x)) X
 
 -- ---- the order of use
 

@@ -9,7 +9,7 @@ use lib.ListN.{length}
 use Rattle.prefix.specs.Bits.{Bits}
 use Rattle.prefix.specs.Prefix.{overlap, common, _⊑_}
 use Rattle.model.specs.Model.{Entry}
-use Rattle.trie.proofs.Moving.{ren}
+use Rattle.trie.specs.Updates.{renumbered}
 use Rattle.lru.specs.Slots.{Cache}
 use Rattle.lru.specs.Sound.{Slot, Live, InUse, SoundCache, entryOf, order, entries}
 
@@ -57,7 +57,7 @@ pub record Removed (n : ℕ) (c w : Cache) (k : ℕ) (place : ℕ → ℕ) : Typ
 -- where the entry of slot i is after the removal of slot k, whose branch is in slot j: that of j in slot k, and that of the last
 -- slot, m, in slot j
 abbrev pub placeAfter : ℕ → ℕ → ℕ → ℕ → ℕ
-placeAfter m k j i = ren m j (ren j k i)
+placeAfter m k j i = renumbered m j (renumbered j k i)
 
 -- ---- what a cache carries
 

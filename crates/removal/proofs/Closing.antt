@@ -8,7 +8,8 @@ use native.Mathlib.Omega.{arith}
 use lib.ListN.{length}
 use Rattle.prefix.specs.Bits.{one?}
 use Rattle.model.specs.Lists.{_∈_}
-use Rattle.trie.proofs.Moving.{ren, ren-s, ren-other}
+use Rattle.trie.specs.Updates.{renumbered}
+use Rattle.trie.proofs.Moving.{renumbered-s, renumbered-other}
 use Rattle.lru.specs.Slots.{Cache, entryNode, rootCell, setChild}
 use Rattle.lru.specs.Sound.{Slot, InUse, SoundCache, entryOf, order}
 use Rattle.lru.specs.Changes.{unlink, removeOnly, removeAt}
@@ -54,16 +55,16 @@ removed-without {m} {c} {d} {k} {place} S r back = record { sound = rw z (r .sou
 place-later : (m k j i : ℕ) → placeAfter (suc m) k j i ≤ m → k < placeAfter (suc m) k j i → k < i
 place-later m k j i low h = go (ℕ-discrete i j)
   where
-    last : (x : ℕ) → ren (suc m) j x ≤ m → k < ren (suc m) j x → k < x
+    last : (x : ℕ) → renumbered (suc m) j x ≤ m → k < renumbered (suc m) j x → k < x
     last x l g = pick (ℕ-discrete x (suc m))
       where
         pick : Dec (x ≡ suc m) → k < x
         pick (yes e) = omega arith
-        pick (no ne) = rw (ren-other (suc m) j x ne) at g
+        pick (no ne) = rw (renumbered-other (suc m) j x ne) at g
 
     go : Dec (i ≡ j) → k < i
-    go (yes e) = absurd (omega (arith, last (ren j k i) low h, ap (ren j k) e, ren-s j k))
-    go (no ne) = rw (ren-other j k i ne) at (last (ren j k i) low h)
+    go (yes e) = absurd (omega (arith, last (renumbered j k i) low h, ap (renumbered j k) e, renumbered-s j k))
+    go (no ne) = rw (renumbered-other j k i ne) at (last (renumbered j k i) low h)
 
 without-beside : (n k q : ℕ) {c d : Cache} → SoundCache n c → Slot n k → q ≡ c .up (entryNode k) → ¬ (q ≡ rootCell)
     → d ≡ removeAt c n k (q / 2) (one? (q % 2)) → Without n c d k

@@ -12,8 +12,8 @@ use Rattle.prefix.specs.Prefix.{contains}
 use Rattle.prefix.specs.Addresses.{ipv4Bits}
 use Rattle.prefix.specs.declared.Address.{Address}
 use Rattle.trie.specs.Trie.{Dense}
-use Rattle.trie.specs.Walk.{follow}
-use Rattle.trie.proofs.Walking.{Walking, walking-start, walking-off, walking-parted, walking-on}
+use Rattle.trie.specs.Walk.{Walking, follow}
+use Rattle.trie.proofs.Walking.{walking-start, walking-off, walking-parted, walking-on}
 use Rattle.nodes.specs.Layout.{word, cellWord, nodesOf, trieOf, numbered}
 use Rattle.nodes.proofs.Coding.{numbered-some, numbered-node, none-numbered, cell-root}
 use Rattle.nodes.proofs.Spelling.{child-word}

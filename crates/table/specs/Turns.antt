@@ -7,8 +7,7 @@ use lib.ListN.{take}
 use Rattle.prefix.specs.Bits.{Bits}
 use Rattle.prefix.specs.Prefix.{contains}
 use Rattle.trie.specs.Trie.{Dense}
-use Rattle.trie.specs.Walk.{better}
-use Rattle.trie.proofs.Walking.{Walking}
+use Rattle.trie.specs.Walk.{Walking, better}
 use Rattle.nodes.specs.Layout.{nodeWord, word, nodesOf, trieOf, numbered}
 use Rattle.table.specs.Tables.{SoundTable}
 use Rattle.table.specs.Stops.{Stopped}

@@ -9,7 +9,7 @@ use native.Mathlib.Omega.{arith}
 use Rattle.prefix.specs.Bits.{Bits}
 use Rattle.prefix.proofs.Order.{below-<}
 use Rattle.trie.specs.Trie.{Cell, Root, Kid, Trie, Inside, Fits, Points, Owned, Sound, Branchy, Held}
-use Rattle.trie.specs.Updates.{cell-dec, upd}
+use Rattle.trie.specs.Updates.{cell-dec, renumbered}
 use Rattle.trie.proofs.Stores.{upd-same, upd-other, not-root}
 
 -- ---- renumbering
@@ -130,21 +130,18 @@ pub record Moved (live : ℕ → Type 0) (v w : Trie) (s t : ℕ) : Type 0 where
   pub child-cell : w .child (v .up s) ≡ some t
   pub child-old : (e : Cell) → Inside live e → ((b : Bool) → ¬ (e ≡ Kid s b)) → ¬ (e ≡ v .up s) → w .child e ≡ v .child e
 
-unfoldable pub ren : ℕ → ℕ → ℕ → ℕ
-ren s t = upd ℕ-discrete (λ a. a) s t
+pub renumbered-s : (s t : ℕ) → renumbered s t s ≡ t
+unfolding renumbered
+renumbered-s s t = upd-same _ _ _ _ s refl
 
-pub ren-s : (s t : ℕ) → ren s t s ≡ t
-unfolding ren
-ren-s s t = upd-same _ _ _ _ s refl
-
-pub ren-other : (s t a : ℕ) → ¬ (a ≡ s) → ren s t a ≡ a
-unfolding ren
-ren-other s t a n = upd-other _ _ _ _ a n
+pub renumbered-other : (s t a : ℕ) → ¬ (a ≡ s) → renumbered s t a ≡ a
+unfolding renumbered
+renumbered-other s t a n = upd-other _ _ _ _ a n
 
 module _ {live live′ : ℕ → Type 0} {v w : Trie} {s t : ℕ} (S : Sound live v) (ls : live s) (k : Moved live v w s t)
     (to-old : (a : ℕ) → live a → ¬ (a ≡ s) → live′ a) (to-new : live′ t) (from : (a : ℕ) → live′ a → (live a × (¬ (a ≡ s))) ⊎ (a ≡ t)) where
   f : ℕ → ℕ
-  f = ren s t
+  f = renumbered s t
 
   -- a node is no child of itself
   self : (b : Bool) → ¬ (v .child (Kid s b) ≡ some s)
@@ -153,13 +150,13 @@ module _ {live live′ : ℕ → Type 0} {v w : Trie} {s t : ℕ} (S : Sound liv
   up-self : (b : Bool) → ¬ (v .up s ≡ Kid s b)
   up-self b z = self b (rw z at (S .owned s ls .child))
 
-  cell-other : (c : Cell) → ((b : Bool) → ¬ (c ≡ Kid s b)) → cellMap (ren s t) c ≡ c
+  cell-other : (c : Cell) → ((b : Bool) → ¬ (c ≡ Kid s b)) → cellMap (renumbered s t) c ≡ c
   cell-other Root n = refl
-  cell-other (Kid a b) n = ap (λ (x : ℕ). Kid x b) (ren-other s t a (λ z. n b (cc)))
+  cell-other (Kid a b) n = ap (λ (x : ℕ). Kid x b) (renumbered-other s t a (λ z. n b (cc)))
 
-  map-other : (o : Option ℕ) → ¬ (o ≡ some s) → Option·map (ren s t) o ≡ o
+  map-other : (o : Option ℕ) → ¬ (o ≡ some s) → Option·map (renumbered s t) o ≡ o
   map-other none n = refl
-  map-other (some a) n = ap {B = Option ℕ} some (ren-other s t a (λ z. n (cc)))
+  map-other (some a) n = ap {B = Option ℕ} some (renumbered-other s t a (λ z. n (cc)))
 
   -- a cell is one of s's or is not
   split : (c : Cell) → ((b : Bool) × (c ≡ Kid s b)) ⊎ ((b : Bool) → ¬ (c ≡ Kid s b))
@@ -171,36 +168,36 @@ module _ {live live′ : ℕ → Type 0} {v w : Trie} {s t : ℕ} (S : Sound liv
       go (no n) = inr (λ x z. n (cc))
 
   -- a fact of a slot and its new number
-  at : (A : Type 0) (x y : ℕ → A) → y t ≡ x s → ((a : ℕ) → live a → ¬ (a ≡ s) → y a ≡ x a) → (a : ℕ) → live a → y (ren s t a) ≡ x a
+  at : (A : Type 0) (x y : ℕ → A) → y t ≡ x s → ((a : ℕ) → live a → ¬ (a ≡ s) → y a ≡ x a) → (a : ℕ) → live a → y (renumbered s t a) ≡ x a
   at A x y p q a l = go (ℕ-discrete a s)
     where
-      go : Dec (a ≡ s) → y (ren s t a) ≡ x a
-      go (yes z) = rw (z, ren-s s t) p
-      go (no n) = rw (ren-other s t a n) (q a l n)
+      go : Dec (a ≡ s) → y (renumbered s t a) ≡ x a
+      go (yes z) = rw (z, renumbered-s s t) p
+      go (no n) = rw (renumbered-other s t a n) (q a l n)
 
-  up : (a : ℕ) → live a → w .up (ren s t a) ≡ cellMap (ren s t) (v .up a)
+  up : (a : ℕ) → live a → w .up (renumbered s t a) ≡ cellMap (renumbered s t) (v .up a)
   up a l = go (ℕ-discrete a s)
     where
-      sub : ¬ (a ≡ s) → ((b : Bool) × (v .up a ≡ Kid s b)) ⊎ ((b : Bool) → ¬ (v .up a ≡ Kid s b)) → w .up a ≡ cellMap (ren s t) (v .up a)
-      sub n (inl z) = k .up-kid (z .0) a (rw (z .1) at (S .owned a l .child)) ∙ rw (z .1, ren-s s t)
+      sub : ¬ (a ≡ s) → ((b : Bool) × (v .up a ≡ Kid s b)) ⊎ ((b : Bool) → ¬ (v .up a ≡ Kid s b)) → w .up a ≡ cellMap (renumbered s t) (v .up a)
+      sub n (inl z) = k .up-kid (z .0) a (rw (z .1) at (S .owned a l .child)) ∙ rw (z .1, renumbered-s s t)
       sub n (inr m) = k .up-old a l n m ∙ sym (cell-other (v .up a) m)
 
-      go : Dec (a ≡ s) → w .up (ren s t a) ≡ cellMap (ren s t) (v .up a)
-      go (yes z) = rw (z, ren-s s t) (k .up-new ∙ sym (cell-other (v .up s) up-self))
-      go (no n) = rw (ren-other s t a n) (sub n (split (v .up a)))
+      go : Dec (a ≡ s) → w .up (renumbered s t a) ≡ cellMap (renumbered s t) (v .up a)
+      go (yes z) = rw (z, renumbered-s s t) (k .up-new ∙ sym (cell-other (v .up s) up-self))
+      go (no n) = rw (renumbered-other s t a n) (sub n (split (v .up a)))
 
-  child : (c : Cell) → Inside live c → w .child (cellMap (ren s t) c) ≡ Option·map (ren s t) (v .child c)
+  child : (c : Cell) → Inside live c → w .child (cellMap (renumbered s t) c) ≡ Option·map (renumbered s t) (v .child c)
   child c i = go (split c)
     where
-      sub : ((b : Bool) → ¬ (c ≡ Kid s b)) → Dec (c ≡ v .up s) → w .child c ≡ Option·map (ren s t) (v .child c)
-      sub n (yes z) = rw z (k .child-cell ∙ rw (S .owned s ls .child, ren-s s t))
+      sub : ((b : Bool) → ¬ (c ≡ Kid s b)) → Dec (c ≡ v .up s) → w .child c ≡ Option·map (renumbered s t) (v .child c)
+      sub n (yes z) = rw z (k .child-cell ∙ rw (S .owned s ls .child, renumbered-s s t))
       sub n (no m) = k .child-old c i n m ∙ sym (map-other (v .child c) (λ h. m (sym (S .points c s i h .back))))
 
-      go : ((b : Bool) × (c ≡ Kid s b)) ⊎ ((b : Bool) → ¬ (c ≡ Kid s b)) → w .child (cellMap (ren s t) c) ≡ Option·map (ren s t) (v .child c)
-      go (inl z) = rw (z .1, ren-s s t) (k .child-new (z .0) ∙ sym (map-other (v .child (Kid s (z .0))) (self (z .0))))
+      go : ((b : Bool) × (c ≡ Kid s b)) ⊎ ((b : Bool) → ¬ (c ≡ Kid s b)) → w .child (cellMap (renumbered s t) c) ≡ Option·map (renumbered s t) (v .child c)
+      go (inl z) = rw (z .1, renumbered-s s t) (k .child-new (z .0) ∙ sym (map-other (v .child (Kid s (z .0))) (self (z .0))))
       go (inr n) = rw (cell-other c n) (sub n (cell-dec c (v .up s)))
 
-  pub moved-renamed : Renamed live live′ v w (ren s t)
+  pub moved-renamed : Renamed live live′ v w (renumbered s t)
   moved-renamed = record {
     to = λ a l. to a l (ℕ-discrete a s);
     from = λ a l. back a (from a l);
@@ -210,10 +207,10 @@ module _ {live live′ : ℕ → Type 0} {v w : Trie} {s t : ℕ} (S : Sound liv
     child = child;
   }
     where
-      to : (a : ℕ) → live a → Dec (a ≡ s) → live′ (ren s t a)
-      to a l (yes z) = rw (z, ren-s s t) to-new
-      to a l (no n) = rw (ren-other s t a n) (to-old a l n)
+      to : (a : ℕ) → live a → Dec (a ≡ s) → live′ (renumbered s t a)
+      to a l (yes z) = rw (z, renumbered-s s t) to-new
+      to a l (no n) = rw (renumbered-other s t a n) (to-old a l n)
 
-      back : (a : ℕ) → (live a × (¬ (a ≡ s))) ⊎ (a ≡ t) → (b : ℕ) × live b × (ren s t b ≡ a)
-      back a (inl h) = (a, h .0, ren-other s t a (h .1))
-      back a (inr z) = (s, ls, ren-s s t ∙ sym z)
+      back : (a : ℕ) → (live a × (¬ (a ≡ s))) ⊎ (a ≡ t) → (b : ℕ) × live b × (renumbered s t b ≡ a)
+      back a (inl h) = (a, h .0, renumbered-other s t a (h .1))
+      back a (inr z) = (s, ls, renumbered-s s t ∙ sym z)

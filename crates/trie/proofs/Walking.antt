@@ -13,7 +13,7 @@ use Rattle.prefix.specs.Prefix.{contains, Below}
 use Rattle.prefix.proofs.Order.{⊑-length, ⊑-eq, below-<}
 use Rattle.prefix.proofs.Tests.{contains-⊑, ⊑-not}
 use Rattle.trie.specs.Trie.{Cell, Root, Kid, Trie, Inside, Fits, Sound}
-use Rattle.trie.specs.Walk.{Stop, better, follow, walk, descent, cellAfter}
+use Rattle.trie.specs.Walk.{Stop, Walking, better, follow, walk, descent, cellAfter}
 use Rattle.trie.proofs.Next.{next-below}
 use Rattle.trie.proofs.Descent.{follow-inv}
 
@@ -50,13 +50,6 @@ module _ (v : Trie) (X : Bits) (fuel : ℕ) (last best : Option ℕ) (n : ℕ) w
   walk-parted i e = rw (e, walk)
 
 -- ---- the loop: what is left of the descent gives what all of it gives
-
-pub record Walking (live : ℕ → Type 0) (v : Trie) (X : Bits) (cursor last best : Option ℕ) (examined : ℕ) : Type 0 where
-  pub fuel : ℕ
-  pub counted : fuel + examined ≡ suc (length X)
-  pub same : walk v X fuel cursor last best examined ≡ descent v X
-  -- in a sound trie there is a step left for every node that is met
-  pub reached : Sound live v → (i : ℕ) → cursor ≡ some i → live i × (examined ≤ length (v .prefix i)) × (examined ≤ length X)
 
 module _ (live : ℕ → Type 0) (v : Trie) (X : Bits) where
   pub walking-start : Walking live v X (v .child Root) none none 0

@@ -11,12 +11,12 @@ use borrow.Author.Tests.{eq-eqb, ne-eqb, lt-ltb, le-ltb}
 use Rattle.prefix.specs.Bits.{Bits}
 use Rattle.prefix.proofs.Booleans.{bool-other, not-ne}
 use Rattle.trie.specs.Trie.{Root, Kid, Trie, Points, Sound, Branchy, Dense, Held, Removed}
-use Rattle.trie.specs.Updates.{upd, setHop, setChild, setUp, setNode, setSlot, setUpOf, unhopAt, cutAt, moveAt, fillAt, fillBoth}
 use Rattle.trie.proofs.Descent.{up-live}
 use Rattle.trie.proofs.Stores.{upd-same, upd-other, set-hop-other, upd-of-same, upd-of-other, kid-slot, kid-side, not-root, fresh-cell, slot-cell, slot-new, slot-old}
 use Rattle.trie.proofs.Hops.{hop-sound, hop-kept, hop-inv}
 use Rattle.trie.proofs.Cutting.{Cut, cut-sound, cut-held, cut-held-inv, cut-full}
-use Rattle.trie.proofs.Moving.{Renamed, renamed-sound, renamed-held, renamed-held-inv, renamed-branchy, agrees-renamed, agrees-self, Moved, ren, moved-renamed}
+use Rattle.trie.specs.Updates.{cutAt, fillAt, fillBoth, moveAt, renumbered, setChild, setHop, setNode, setSlot, setUp, setUpOf, unhopAt, upd}
+use Rattle.trie.proofs.Moving.{Renamed, renamed-sound, renamed-held, renamed-held-inv, renamed-branchy, agrees-renamed, agrees-self, Moved, moved-renamed}
 
 -- ---- what the two steps change
 
@@ -121,7 +121,7 @@ filled {live} {live′} {v} {m} {x} S o = go (ℕ-discrete x m)
         let h : x < m = omega (arith, o .within) in
         let t = o .new h in
         rw (fill-move v m x n) (
-          ren m x,
+          renumbered m x,
           moved-renamed S (t .1) (move-at live v m x S (t .1) (λ l. o .bound x l .1 refl))
               (λ a l ne. o .keep a l (omega (arith, o .bound a l))) (t .0) (λ a l. from a (o .inv a l .0) (o .inv a l .1)),
         )

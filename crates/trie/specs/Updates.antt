@@ -16,6 +16,10 @@ cell-dec = Cell-discrete ℕ-discrete Bool-discrete
 unfoldable pub upd : {I A : Type 0} → ((x y : I) → Dec (x ≡ y)) → (I → A) → I → A → I → A
 upd dec f k a i = elim (dec i k) [ yes e ↦ a | no n ↦ f i ]
 
+-- a slot's number once what stood in slot s stands in slot t
+unfoldable pub renumbered : ℕ → ℕ → ℕ → ℕ
+renumbered s t = upd ℕ-discrete (λ a. a) s t
+
 -- ---- one store
 
 unfoldable pub setNode : Trie → ℕ → Bits → Option ℕ → Trie

@@ -1,13 +1,14 @@
 -- "The descent stops at the last node that contains the address and yields that place, or that there is none." The descent from the
 -- root by the bits of X, which is an address, or a prefix that is looked for. Assumes nothing.
+use mathlib.Core.Path.{_≡_}
 use mathlib.Core.Bool.{Bool, true, false, cond, _||_}
 use mathlib.Core.Option.{Option, none, some}
-use Prim.Native.Nat.{ℕ, zero, suc}
+use Prim.Native.Nat.{ℕ, zero, suc, _+_, _≤_}
 use lib.ListN.{length, getD}
 use lib.Dec.{ltb, eqb}
 use Rattle.prefix.specs.Bits.{Bits}
 use Rattle.prefix.specs.Prefix.{contains, common}
-use Rattle.trie.specs.Trie.{Cell, Root, Kid, Trie}
+use Rattle.trie.specs.Trie.{Cell, Root, Kid, Trie, Sound}
 
 -- where a descent stopped
 pub record Stop : Type 0 where
@@ -41,6 +42,14 @@ walk v X (suc fuel) (some i) last best examined = elim (contains (v .prefix i) X
 -- from the root; a sound trie has no descent of more steps
 unfoldable pub descent : Trie → Bits → Stop
 descent v X = walk v X (suc (length X)) (v .child Root) none none 0
+
+-- a loop on the way from the root: what is left of the descent gives what all of it gives
+pub record Walking (live : ℕ → Type 0) (v : Trie) (X : Bits) (cursor last best : Option ℕ) (examined : ℕ) : Type 0 where
+  pub fuel : ℕ
+  pub counted : fuel + examined ≡ suc (length X)
+  pub same : walk v X fuel cursor last best examined ≡ descent v X
+  -- in a sound trie there is a step left for every node that is met
+  pub reached : Sound live v → (i : ℕ) → cursor ≡ some i → live i × (examined ≤ length (v .prefix i)) × (examined ≤ length X)
 
 -- ---- what a stop tells
 
