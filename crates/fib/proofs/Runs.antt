@@ -58,7 +58,7 @@ sound-kept {table} {cache} S = record {
 
 -- ---- one call
 
-reached-alike : {table cache : List ℕ} {t : Tallies} {s z : State} → Reached table cache t s → Alike s z → Alike (stateOf table cache t) z
+pub reached-alike : {table cache : List ℕ} {t : Tallies} {s z : State} → Reached table cache t s → Alike s z → Alike (stateOf table cache t) z
 reached-alike R A = record {
   tables = record { to = λ r m. A .tables .to r (R .are-routes .to r m); from = λ r m. R .are-routes .from r (A .tables .from r m) };
   caches = R .are-entries ∙ A .caches;

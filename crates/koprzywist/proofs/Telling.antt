@@ -5,6 +5,7 @@ use mathlib.Core.List.{List}
 use mathlib.Core.Logic.{_⊎_, inl, inr}
 use Prim.Native.Nat.{ℕ, _+_, _-_, _<_, _≤_}
 use native.Mathlib.Omega.{arith}
+use lib.ListN.{length}
 use lib.Dec.{ltb}
 use borrow.Author.Tests.{lt-ltb, le-ltb, ltb-true, ltb-false}
 use Rattle.answers.specs.Answers.{room}
@@ -31,8 +32,8 @@ full-else size waiting h =
 
 -- ---- room for a line
 
-pub roomy-flushed : (size : ℕ) (r p : Progress) → Waits r p 0 → Roomy size r p
-roomy-flushed size r p W = record { kept = inr W; has-room = λ h. omega (arith, h, W .is-waiting) }
+pub roomy-flushed : (size : ℕ) (r p : Progress) (full : Bool) → full ≡ ltb size (r .waiting + room) → full ≡ true → Waits r p 0 → Roomy size r p
+roomy-flushed size r p full is is-full W = record { kept = inr (ltb-true size (r .waiting + room) (sym is ∙ is-full), W); has-room = λ h. omega (arith, h, W .is-waiting) }
 
 pub roomy-kept : (size : ℕ) (r : Progress) (full : Bool) → full ≡ ltb size (r .waiting + room) → full ≡ false → Roomy size r r
 roomy-kept size r full is not-full = record {
@@ -46,16 +47,16 @@ module _ {out out′ : List ℕ} {said : Said} {r p : Progress} (T : Told out ou
   told-tallies : p .tallies ≡ r .tallies
   told-tallies = T .waits .same-tallies ∙ of (T .is-roomy .kept)
     where
-      of : Waits r (T .roomy) (r .waiting) ⊎ Waits r (T .roomy) 0 → T .roomy .tallies ≡ r .tallies
+      of : Waits r (T .roomy) (r .waiting) ⊎ ((length out < r .waiting + room) × Waits r (T .roomy) 0) → T .roomy .tallies ≡ r .tallies
       of (inl W) = W .same-tallies
-      of (inr W) = W .same-tallies
+      of (inr (l, W)) = W .same-tallies
 
   told-long : p .long ≡ r .long
   told-long = T .waits .same-long ∙ of (T .is-roomy .kept)
     where
-      of : Waits r (T .roomy) (r .waiting) ⊎ Waits r (T .roomy) 0 → T .roomy .long ≡ r .long
+      of : Waits r (T .roomy) (r .waiting) ⊎ ((length out < r .waiting + room) × Waits r (T .roomy) 0) → T .roomy .long ≡ r .long
       of (inl W) = W .same-long
-      of (inr W) = W .same-long
+      of (inr (l, W)) = W .same-long
 
 -- ---- a line that was taken
 

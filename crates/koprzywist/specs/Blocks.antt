@@ -4,7 +4,7 @@ use mathlib.Core.Path.{_≡_}
 use mathlib.Core.Bool.{cond, false}
 use mathlib.Core.List.{List}
 use mathlib.Core.Logic.{_⊎_}
-use Prim.Native.Nat.{ℕ, _+_, _-_, _≤_}
+use Prim.Native.Nat.{ℕ, _+_, _-_, _≤_, _<_}
 use lib.ListN.{length, take, drop}
 use Rattle.answers.specs.Answers.{room, Printed}
 use Rattle.answers.specs.declared.Said.{Said}
@@ -26,9 +26,9 @@ pub record Waits (r p : Progress) (waiting : ℕ) : Type 0 where
   pub same-long : p .long ≡ r .long
   pub is-waiting : p .waiting ≡ waiting
 
--- what waits was kept, or written; then a line has room, if the buffer has room for any
+-- what waits was kept or, where a line has no room behind it, written; then a line has room, if the buffer has room for any
 pub record Roomy (size : ℕ) (r p : Progress) : Type 0 where
-  pub kept : Waits r p (r .waiting) ⊎ Waits r p 0
+  pub kept : Waits r p (r .waiting) ⊎ ((size < r .waiting + room) × Waits r p 0)
   pub has-room : room ≤ size → p .waiting + room ≤ size
 
 -- a line was put behind what waits, or at the start of the buffer where that was written
