@@ -19,7 +19,8 @@ use Rattle.trie.specs.Trie.{Kid, Trie, Dense, Put}
 use Rattle.trie.specs.Updates.{hopAt, leafAt, spliceAt, forkAt}
 use Rattle.trie.proofs.Announcing.{dense-joined, put-hop, put-leaf, put-above, put-fork}
 use Rattle.trie.proofs.Counting.{slots-spare}
-use Rattle.nodes.specs.Layout.{nodeWord, word, limitOf, nodesOf, routeCount, cellOf, trieOf}
+use Rattle.sizes.specs.BothStores.{slotWord, word, limitOf}
+use Rattle.nodes.specs.Layout.{nodesOf, routeCount, cellOf, trieOf}
 use Rattle.nodes.specs.Headers.{HeaderRead}
 use Rattle.nodes.specs.Stores.{putMark, putCounts}
 use Rattle.nodes.specs.declared.Header.{Header}
@@ -47,7 +48,7 @@ same-counts : (w : List ℕ) → putCounts w (nodesOf w) (routeCount w) ≡ w
 unfolding putCounts
 same-counts w = rw (set-getD, set-getD)
 
-module _ (w : List ℕ) (h : Header) (p : ℕ) (at : NodeAt w h p) (hop : ℕ) (ok : Hop hop) (mark : ℕ) (is-mark : mark ≡ word w (nodeWord p 2)) where
+module _ (w : List ℕ) (h : Header) (p : ℕ) (at : NodeAt w h p) (hop : ℕ) (ok : Hop hop) (mark : ℕ) (is-mark : mark ≡ word w (slotWord p 2)) where
   module _ (s : SoundTable w) where
     hop-kept : Kept w (nodesOf w) (putMark w p (hop + 1))
     hop-kept = mark-kept w (nodesOf w) (s .shaped .enough) (s .shaped .nodes-fit) (kept-all w s) p (hop + 1) (at-within w h p at)
@@ -89,7 +90,7 @@ is-roomy w h cell p a n hop adds l k = record {
   legal = omega (arith, adds .header .0 .legal, adds .header .1);
 }
 
-pub is-meeting : (w : List ℕ) (p : ℕ) (a there : Address) (own agreed : ℕ) → own ≡ word w (nodeWord p 1) → own ≤ 32 → take 32 (addressBits there) ≡ bits 32 (word w (nodeWord p 0))
+pub is-meeting : (w : List ℕ) (p : ℕ) (a there : Address) (own agreed : ℕ) → own ≡ word w (slotWord p 1) → own ≤ 32 → take 32 (addressBits there) ≡ bits 32 (word w (slotWord p 0))
     → agreed ≡ common (addressBits a) (take own (addressBits there)) → Meets w p a there agreed
 is-meeting w p a there own agreed e l t c = record { own-short = rw (← e) l; is-there = t; is-agreed = rw (← e) c }
 
@@ -145,14 +146,14 @@ module _ (w : List ℕ) (h : Header) (cell p : ℕ) (a : Address) (n hop : ℕ) 
 
       -- node p hangs there
       module _ (pos : 0 < p) where
-        pub long-node : (own : ℕ) → own ≡ word w (nodeWord p 1) → 32 < own → Answered w w n (announcement a n hop) Unsound
+        pub long-node : (own : ℕ) → own ≡ word w (slotWord p 1) → 32 < own → Answered w w n (announcement a n hop) Unsound
         long-node own is-own l = unsound w w n _ (λ s. omega (arith, s .plain .short p pos (omega (arith, header .2, adds .node-in-use))))
 
         module _ (there : Address) (agreed : ℕ) (meets : Meets w p a there agreed) where
           own : ℕ
-          own = word w (nodeWord p 1)
+          own = word w (slotWord p 1)
 
-          is-own : own ≡ word w (nodeWord p 1)
+          is-own : own ≡ word w (slotWord p 1)
           unfolding own
           is-own = refl
 

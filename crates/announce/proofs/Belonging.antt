@@ -16,7 +16,8 @@ use Rattle.model.specs.Demands.{Hop}
 use Rattle.trie.specs.Trie.{Kid, Dense}
 use Rattle.trie.specs.Walk as walk
 use Rattle.trie.proofs.Walking.{Landed}
-use Rattle.nodes.specs.Layout.{nodeWord, word, nodesOf, cellOf, trieOf}
+use Rattle.sizes.specs.BothStores.{slotWord, word}
+use Rattle.nodes.specs.Layout.{nodesOf, cellOf, trieOf}
 use Rattle.nodes.specs.Headers.{HeaderRead}
 use Rattle.nodes.specs.declared.Header.{Header}
 use Rattle.nodes.specs.declared.Shape.{Shape}
@@ -57,7 +58,7 @@ module _ (w : List ℕ) (a : Address) (n : ℕ) (short : n ≤ 32) (stop : Stop)
     unfolding walk.cellAfter
     belongs-first z = belongs-at 0 (λ y. omega arith) (rw (stop-last w a n short stop at s, z, none-numbered, cell-root))
 
-    module _ (some-last : ¬ (stop .last ≡ 0)) (own : ℕ) (is-own : own ≡ word w (nodeWord (stop .last) 1)) where
+    module _ (some-last : ¬ (stop .last ≡ 0)) (own : ℕ) (is-own : own ≡ word w (slotWord (stop .last) 1)) where
       after : walk.cellAfter (trieOf w) (take n (ipv4Bits a)) (walk.descent (trieOf w) (take n (ipv4Bits a)) .last) ≡ Kid (stop .last - 1) (getD (take n (ipv4Bits a)) own false)
       unfolding walk.cellAfter
       after = rw (last-node w a n short stop at s some-last own is-own, walk.cellAfter, last-length w a n short stop at s some-last own is-own)
@@ -92,7 +93,7 @@ module _ (w : List ℕ) (h : Header) (stop : Stop) (a : Address) (n hop : ℕ) (
     some-last : ¬ (stop .last ≡ 0)
     some-last z = omega arith
 
-    module _ (own : ℕ) (is-own : own ≡ word w (nodeWord (stop .last) 1)) where
+    module _ (own : ℕ) (is-own : own ≡ word w (slotWord (stop .last) 1)) where
       pub sought-own : own ≡ n → (w′ : List ℕ) (r : Verdict) → Answered w w′ 0 (announcementAt w (stop .last) hop) r → Answered w w′ n (announcement a n hop) r
       sought-own e w′ r g = last-own w a n (sought .short) stop at some-last own is-own e w′ _ r g
 

@@ -10,7 +10,8 @@ use Rattle.prefix.specs.Bits.{Bits, one?}
 use Rattle.prefix.specs.Prefix.{prefixOf}
 use Rattle.sizes.specs.Sizes.{tableNeed}
 use Rattle.trie.specs.Updates.{setChild, setUp, setSlot, leafAt, onSide, spliceAt}
-use Rattle.nodes.specs.Layout.{limitOf, numbered, cellOf, trieOf}
+use Rattle.sizes.specs.BothStores.{limitOf}
+use Rattle.nodes.specs.Layout.{numbered, cellOf, trieOf}
 use Rattle.nodes.specs.Stores.{putNode}
 use Rattle.nodes.specs.declared.Node.{Node}
 use Rattle.nodes.proofs.Coding.{numbered-node, none-numbered, cell-side}

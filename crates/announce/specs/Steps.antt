@@ -12,7 +12,8 @@ use Rattle.prefix.specs.Addresses.{addressBits, ipv4Bits}
 use Rattle.model.specs.Routes as model
 use Rattle.model.specs.Demands.{Hop}
 use Rattle.trie.specs.Trie.{Inside, Fits, Dense}
-use Rattle.nodes.specs.Layout.{nodeWord, word, nodesOf, numbered, cellOf, trieOf}
+use Rattle.sizes.specs.BothStores.{slotWord, word}
+use Rattle.nodes.specs.Layout.{nodesOf, numbered, cellOf, trieOf}
 use Rattle.nodes.specs.Headers.{HeaderRead}
 use Rattle.nodes.specs.declared.Header.{Header}
 use Rattle.nodes.specs.declared.Shape.the-variants as shape
@@ -56,6 +57,6 @@ pub record Adds (w : List ℕ) (h : Header) (cell p : ℕ) (a : Address) (n hop 
 
 -- there is the address of node p, and agreed the bits in which a agrees with its prefix
 pub record Meets (w : List ℕ) (p : ℕ) (a there : Address) (agreed : ℕ) : Type 0 where
-  pub own-short : word w (nodeWord p 1) ≤ 32
-  pub is-there : take 32 (addressBits there) ≡ bits 32 (word w (nodeWord p 0))
-  pub is-agreed : agreed ≡ common (addressBits a) (take (word w (nodeWord p 1)) (addressBits there))
+  pub own-short : word w (slotWord p 1) ≤ 32
+  pub is-there : take 32 (addressBits there) ≡ bits 32 (word w (slotWord p 0))
+  pub is-agreed : agreed ≡ common (addressBits a) (take (word w (slotWord p 1)) (addressBits there))

@@ -7,7 +7,7 @@ use lib.Dec.{eqb}
 use Rattle.prefix.specs.Bits.{Bits}
 use Rattle.prefix.specs.Prefix.{prefixOf}
 use Rattle.sizes.specs.Sizes.{largestLimit}
-use Rattle.nodes.specs.Layout.{Room}
+use Rattle.sizes.specs.BothStores.{Room}
 use Rattle.nodes.specs.Stores.{putUp, putChild, putNode, putCounts}
 use Rattle.nodes.specs.declared.Header.{Header}
 use Rattle.nodes.specs.declared.Node.{Node}

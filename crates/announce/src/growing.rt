@@ -6,7 +6,7 @@ ghost use mathlib.Core.Path.{_≡_};
 ghost use Prim.Native.Nat.{_+_, _/_, _≤_, _<_};
 ghost use lib.ListN.{take};
 ghost use Rattle.prefix.specs.Addresses.{ipv4Bits};
-ghost use Rattle.nodes.specs.Layout.{Room};
+ghost use Rattle.sizes.specs.BothStores.{Room};
 ghost use Rattle.announce.specs.Writes.{Roomy, NodeOf, onlyChild, inserted, withLeaf, withAbove, withFork};
 
 // The node of the first n bits of a.

@@ -7,7 +7,7 @@ use native.Mathlib.Omega.{arith}
 use Rattle.tallies.specs.Counting.{plus, zeroTallies, sum, InRange, Added}
 use Rattle.tallies.specs.declared.Tallies.{Tallies}
 use Rattle.prefix.specs.Bits.{bits}
-use Rattle.slots.specs.Layout.{limitOf}
+use Rattle.sizes.specs.BothStores.{limitOf}
 use Rattle.table.specs.Tables.{routes}
 use Rattle.entries.specs.Caches.{entries}
 use Rattle.model.specs.Model as model

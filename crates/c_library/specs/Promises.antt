@@ -6,8 +6,7 @@ use Rattle.sizes.specs.Sizes.{setupNumber}
 use Rattle.sizes.specs.declared.Setup.{Setup}
 use Rattle.tallies.specs.Counting.{zeroTallies}
 use Rattle.tallies.specs.declared.Tallies.{Tallies}
-use Rattle.table.specs.Tables.{SoundTable, TableSetUp}
-use Rattle.cache.specs.Calls.{CacheSetUp}
+use Rattle.table.specs.Tables.{SoundTable}
 use Rattle.updates.specs.declared.Action.{Action}
 use Rattle.updates.specs.declared.Update.{Update}
 use Rattle.pairs.specs.Pairs.{SoundPair}
@@ -21,15 +20,11 @@ use Rattle.c_library.specs.declared.Told.{Told}
 
 -- ---- set-up and checks
 
-pub record TableReady (w w′ : List ℕ) (limit number : ℕ) : Type 0 where
+-- the number of an answer that the promise is of
+pub record SetUpTold (Promise : Setup → Type 0) (number : ℕ) : Type 0 where
   pub call : Setup
   pub is-number : number ≡ setupNumber call
-  pub promise : TableSetUp w w′ limit call
-
-pub record CacheReady (w w′ : List ℕ) (limit number : ℕ) : Type 0 where
-  pub call : Setup
-  pub is-number : number ≡ setupNumber call
-  pub promise : CacheSetUp w w′ limit call
+  pub promise : Promise call
 
 -- "answers yes or no": 1 or 0
 pub record Answers (P : Type 0) (number : ℕ) : Type 0 where

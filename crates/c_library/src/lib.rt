@@ -11,9 +11,11 @@ ghost use mathlib.Core.Bool.{cond};
 ghost use mathlib.Core.List.{[], _∷_};
 ghost use Rattle.sizes.specs.Sizes.{entriesFor, sizingNumber, sizingEntries};
 ghost use Rattle.tallies.specs.Counting.{difference as between, heldSum};
+ghost use Rattle.table.specs.Tables.{TableSetUp};
+ghost use Rattle.cache.specs.Calls.{CacheSetUp};
 ghost use Rattle.updates.specs.declared.Action.the-variants.{Announce, Withdraw};
 ghost use Rattle.c_library.specs.Words.{lookWords, lookNumber};
-ghost use Rattle.c_library.specs.Promises.{TableReady, CacheReady, TableSound, PairSound, LookTold, UpdateTold, LentLookup, LentUpdate};
+ghost use Rattle.c_library.specs.Promises.{SetUpTold, TableSound, PairSound, LookTold, UpdateTold, LentLookup, LentUpdate};
 
 // ---- sizes and set-up
 
@@ -28,14 +30,14 @@ pub extern "C" fn kop_entries_for(bytes: u64, entries: &mut u32) -> u32
 
 #[no_mangle]
 pub extern "C" fn kop_table_setup(table: &mut [u32], limit: u32) -> u32
-    ensures { λ r. ⌜ TableReady (now (table .entry)) (now (table .exit)) limit r ⌝ }
+    ensures { λ r. ⌜ SetUpTold (TableSetUp (now (table .entry)) (now (table .exit)) limit) r ⌝ }
 {
     sizes::setup_number(table::set_up(table, limit))
 }
 
 #[no_mangle]
 pub extern "C" fn kop_cache_setup(cache: &mut [u32], limit: u32) -> u32
-    ensures { λ r. ⌜ CacheReady (now (cache .entry)) (now (cache .exit)) limit r ⌝ }
+    ensures { λ r. ⌜ SetUpTold (CacheSetUp (now (cache .entry)) (now (cache .exit)) limit) r ⌝ }
 {
     sizes::setup_number(cache::set_up(cache, limit))
 }

@@ -9,7 +9,8 @@ use lib.Dec.{leb}
 use borrow.Author.Tests.{leb-true, leb-false, not-true, not-false}
 use Rattle.prefix.specs.Bits.{Bits}
 use Rattle.model.specs.Demands.{Hop}
-use Rattle.slots.specs.Layout.{limitOf, entriesHeld, Shaped}
+use Rattle.sizes.specs.BothStores.{limitOf}
+use Rattle.slots.specs.Layout.{entriesHeld, Shaped}
 use Rattle.slots.specs.Headers.{HeaderRead}
 use Rattle.slots.specs.declared.Header.{Header}
 use Rattle.slots.specs.declared.Shape.{Shape}

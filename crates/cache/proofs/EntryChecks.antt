@@ -17,7 +17,8 @@ use Rattle.lru.specs.Slots.{cellOf}
 use Rattle.lru.specs.Sound.{Slot, Live, Ring}
 use Rattle.lru.specs.Checks.{lengthAt, Leads, BranchOk, RootOk, Checked}
 use Rattle.lru.proofs.Checking.{checked-sound, sound-checked}
-use Rattle.slots.specs.Layout.{slotWord, word, entriesHeld, cacheOf, Shaped}
+use Rattle.sizes.specs.BothStores.{slotWord, word}
+use Rattle.slots.specs.Layout.{entriesHeld, cacheOf, Shaped}
 use Rattle.slots.specs.Headers.{HeaderRead}
 use Rattle.slots.specs.declared.Header.{Header}
 use Rattle.slots.specs.declared.Shape.{Shape}

@@ -21,7 +21,8 @@ use Rattle.prefix.proofs.AddressLaws.{ipv4-contains, ipv4-bit}
 use Rattle.lru.specs.Slots.{cellOf}
 use Rattle.lru.specs.Sound.{Live, InUse}
 use Rattle.lru.specs.Checks.{lengthAt, Hangs}
-use Rattle.slots.specs.Layout.{slotWord, cellWord, word, entriesHeld, upIn, cacheOf, Shaped, Room}
+use Rattle.sizes.specs.BothStores.{slotWord, word, Room}
+use Rattle.slots.specs.Layout.{cellWord, entriesHeld, upIn, cacheOf, Shaped}
 use Rattle.slots.proofs.ReadLaws.{read-up}
 use Rattle.cache.specs.Checks.{Decides, Longer, GoesOn, CellFine}
 

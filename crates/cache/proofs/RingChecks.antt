@@ -12,7 +12,8 @@ use Rattle.lru.specs.Slots.{Cache}
 use Rattle.lru.specs.Sound.{along, Ring}
 use Rattle.lru.specs.Checks.{Walked}
 use Rattle.lru.proofs.Checking.{walked-start, walked-step, walked-ring}
-use Rattle.slots.specs.Layout.{slotWord, word, cacheOf}
+use Rattle.sizes.specs.BothStores.{slotWord, word}
+use Rattle.slots.specs.Layout.{cacheOf}
 use Rattle.slots.proofs.ReadLaws.{read-prev, read-next}
 use Rattle.cache.specs.Checks.{Decides}
 use Rattle.cache.proofs.NodeChecks.{refuse}

@@ -8,7 +8,8 @@ use lib.Dec.{eqb}
 use borrow.Author.Tests.{eqb-true, eqb-false, not-true, not-false}
 use Rattle.lru.specs.Slots.{entryNode, branchNode, rootCell}
 use Rattle.lru.specs.Checks.{Hangs, RootOk}
-use Rattle.slots.specs.Layout.{slotWord, cellWord, word, entriesHeld, cacheOf}
+use Rattle.sizes.specs.BothStores.{slotWord, word}
+use Rattle.slots.specs.Layout.{cellWord, entriesHeld, cacheOf}
 use Rattle.slots.proofs.ReadLaws.{read-child, read-branch}
 use Rattle.cache.specs.Checks.{Decides, CellFine, BranchFine, SlotFine}
 use Rattle.cache.proofs.NodeChecks.{refuse, accept, entry-length}

@@ -5,13 +5,13 @@ use mathlib.Core.Bool.{Bool, true}
 use mathlib.Core.Logic.{_↔_}
 use mathlib.Core.List.{List, [], _∷_}
 use Prim.Native.Nat.{ℕ, suc, _-_, _≤_, _<_}
-use lib.ListN.{length, take, drop}
+use lib.ListN.{take}
 use Rattle.prefix.specs.Bits.{Bits}
-use Rattle.sizes.specs.Sizes.{cacheNeed, setupFor}
+use Rattle.sizes.specs.Sizes.{cacheNeed}
+use Rattle.sizes.specs.BothStores.{limitOf, SetUp, Fresh}
 use Rattle.sizes.specs.declared.Setup.{Setup}
-use Rattle.sizes.specs.declared.Setup.the-variants.{Done}
 use Rattle.model.specs.Demands.{Hop}
-use Rattle.slots.specs.Layout.{limitOf, entriesHeld, Shaped}
+use Rattle.slots.specs.Layout.{entriesHeld, Shaped}
 use Rattle.entries.specs.Caches.{entries, Slot, entryIn, othersIn, Free, SoundEntries, Kept, Holds, Removes, Rehops, NearestTo, Oldest}
 use Rattle.entries.specs.declared.find.Nearest.the-variants.{Hit, Miss}
 use Rattle.cache.specs.declared.Sought.{Sought}
@@ -24,10 +24,11 @@ use Rattle.cache.specs.declared.Change.{Change}
 use Rattle.cache.specs.declared.Change.the-variants.{Made, Refused}
 
 -- "a cache set up again is empty"
-pub record CacheSetUp (w w′ : List ℕ) (limit : ℕ) (r : Setup) : Type 0 where
-  pub answer : r ≡ setupFor cacheNeed (length w) limit
-  pub done : r ≡ Done → Holds w′ [] × (limitOf w′ ≡ limit) × (drop (cacheNeed limit) w′ ≡ drop (cacheNeed limit) w)
-  pub refused : ¬ (r ≡ Done) → w′ ≡ w
+abbrev pub EmptyCache : List ℕ → Type 0
+EmptyCache w = Holds w []
+
+abbrev pub CacheSetUp : List ℕ → List ℕ → ℕ → Setup → Type 0
+CacheSetUp = SetUp cacheNeed (Fresh cacheNeed EmptyCache)
 
 abbrev pub EntriesChecked : List ℕ → Bool → Type 0
 EntriesChecked w r = (r ≡ true) ↔ SoundEntries w

@@ -9,7 +9,8 @@ use Rattle.prefix.specs.Prefix.{common}
 use Rattle.lru.specs.Slots.{entryNode, branchNode, cellOf}
 use Rattle.lru.specs.Sound.{Live}
 use Rattle.lru.specs.Checks.{lengthAt, Hangs}
-use Rattle.slots.specs.Layout.{slotWord, word, entriesHeld, cacheOf}
+use Rattle.sizes.specs.BothStores.{slotWord, word}
+use Rattle.slots.specs.Layout.{entriesHeld, cacheOf}
 
 pub record Decides (good : Type 0) (r : Bool) : Type 0 where
   pub yes : r ≡ true → good

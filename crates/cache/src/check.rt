@@ -5,7 +5,8 @@ ghost use Prim.Native.Nat.{_%_, _/_, _≤_, _<_};
 ghost use Rattle.prefix.specs.Bits.{one?};
 ghost use Rattle.lru.specs.Sound.{Live, InUse, Ring};
 ghost use Rattle.lru.specs.Checks.{Hangs, RootOk};
-ghost use Rattle.slots.specs.Layout.{slotWord, word, entriesHeld, cacheOf, Shaped, Room};
+ghost use Rattle.sizes.specs.BothStores.{slotWord, word, Room};
+ghost use Rattle.slots.specs.Layout.{entriesHeld, cacheOf, Shaped};
 ghost use Rattle.cache.specs.Calls.{EntriesChecked};
 ghost use Rattle.cache.specs.Checks.{Decides, Longer, GoesOn, CellFine, BranchFine, SlotFine};
 

@@ -6,7 +6,7 @@ use cache::Last;
 use cache::Sought;
 use prefix::Address;
 use slots::Shape;
-ghost use Rattle.slots.specs.Layout.{Room};
+ghost use Rattle.sizes.specs.BothStores.{Room};
 
 const TURNS: u32 = 6_000;
 

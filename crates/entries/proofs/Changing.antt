@@ -9,7 +9,8 @@ use Rattle.prefix.specs.Prefix.{prefixOf}
 use Rattle.sizes.specs.Sizes.{cacheNeed}
 use Rattle.lru.specs.Slots.{Cache, branchNode, setEntry, setBranchLength, setChild, setUp, setPrev, setNext}
 use Rattle.lru.specs.Sound as lru
-use Rattle.slots.specs.Layout.{limitOf, entriesHeld, cacheOf, Room, Shaped}
+use Rattle.sizes.specs.BothStores.{limitOf, Room}
+use Rattle.slots.specs.Layout.{entriesHeld, cacheOf, Shaped}
 use Rattle.slots.specs.Stores.{putEntry, putPrev, putNext, putChild, putBranch, putUp}
 use Rattle.slots.specs.Stores as slots
 use Rattle.slots.proofs.StoreLaws.{cache-prev, cache-next, cache-entry, cache-branch, cache-child, cache-up}

@@ -15,7 +15,8 @@ use Rattle.prefix.proofs.Order.{take-len}
 use Rattle.prefix.proofs.AddressLaws.{common-32, length-ipv4}
 use Rattle.lru.specs.Sound as lru
 use Rattle.lru.specs.Results.{Short}
-use Rattle.slots.specs.Layout.{slotWord, word, entriesHeld, cacheOf}
+use Rattle.sizes.specs.BothStores.{slotWord, word}
+use Rattle.slots.specs.Layout.{entriesHeld, cacheOf}
 use Rattle.entries.specs.Caches.{entries}
 use Rattle.entries.specs.Walks.{CommonWith}
 

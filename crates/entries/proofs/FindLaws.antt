@@ -18,7 +18,8 @@ use Rattle.lru.specs.Sound as lru
 use Rattle.lru.specs.Results as results
 use Rattle.lru.proofs.Walking.{find-nearest}
 use Rattle.lru.proofs.Holding.{entry-slot, nearest-largest}
-use Rattle.slots.specs.Layout.{slotWord, word, entriesHeld, cacheOf}
+use Rattle.sizes.specs.BothStores.{slotWord, word}
+use Rattle.slots.specs.Layout.{entriesHeld, cacheOf}
 use Rattle.entries.specs.Caches.{entries, SoundEntries, NearestTo}
 use Rattle.entries.specs.Walks.{CommonWith, Walked}
 use Rattle.entries.specs.declared.find.Nearest.the-variants.{Hit, Miss}

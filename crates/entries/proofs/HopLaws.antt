@@ -10,7 +10,8 @@ use Rattle.lru.specs.Slots.{setHop}
 use Rattle.lru.specs.Sound as lru
 use Rattle.lru.proofs.Orders.{ring-order, order-same, order-is}
 use Rattle.lru.proofs.Using.{hop-sound, entry-path, map-same}
-use Rattle.slots.specs.Layout.{entriesHeld, cacheOf, Room, Shaped}
+use Rattle.sizes.specs.BothStores.{Room}
+use Rattle.slots.specs.Layout.{entriesHeld, cacheOf, Shaped}
 use Rattle.slots.specs.Stores as slots
 use Rattle.slots.proofs.StoreLaws.{cache-hop}
 use Rattle.slots.proofs.KeptLaws.{kept-hop}

@@ -7,7 +7,8 @@ use Rattle.lru.specs.Slots.{Cache}
 use Rattle.lru.specs.Changes.{unlink, pushFront, toFront, moveLinks}
 use Rattle.lru.proofs.Stores.{unlink-stores, push-stores, links-stores}
 use Rattle.lru.proofs.Using.{front-sound, front-entries, oldest-slot, oldest-last}
-use Rattle.slots.specs.Layout.{slotWord, word, entriesHeld, cacheOf, Shaped}
+use Rattle.sizes.specs.BothStores.{slotWord, word}
+use Rattle.slots.specs.Layout.{entriesHeld, cacheOf, Shaped}
 use Rattle.slots.specs.Stores.{putPrev, putNext}
 use Rattle.slots.proofs.ReadLaws.{read-prev, read-next}
 use Rattle.slots.proofs.KeptLaws.{kept-then}

@@ -17,7 +17,8 @@ use Rattle.lru.specs.Sound.{Live}
 use Rattle.lru.specs.Changes.{passes, towards, walk}
 use Rattle.lru.proofs.Shape.{branch-short}
 use Rattle.lru.proofs.Walking.{find-start, passes-branch, stops-entry, stops-miss, walk-on, walk-end, on-start, on-step}
-use Rattle.slots.specs.Layout.{slotWord, cellWord, word, entriesHeld, cacheOf}
+use Rattle.sizes.specs.BothStores.{slotWord, word}
+use Rattle.slots.specs.Layout.{cellWord, entriesHeld, cacheOf}
 use Rattle.slots.proofs.ReadLaws.{read-child, read-branch}
 use Rattle.entries.specs.Caches.{SoundEntries}
 use Rattle.entries.specs.Walks.{CommonWith, Going, Turned, Walked}

@@ -13,7 +13,8 @@ use Rattle.model.specs.Model.{Entry, Cache}
 use Rattle.model.specs.Demands.{NoneCached}
 use Rattle.lru.specs.Sound as lru
 use Rattle.lru.specs.Results.{others}
-use Rattle.slots.specs.Layout.{limitOf, entriesHeld, cacheOf, Shaped, Plain}
+use Rattle.sizes.specs.BothStores.{limitOf}
+use Rattle.slots.specs.Layout.{entriesHeld, cacheOf, Shaped, Plain}
 use Rattle.entries.specs.declared.find.Nearest.{Nearest}
 use Rattle.entries.specs.declared.find.Nearest.the-variants.{Hit, Miss}
 

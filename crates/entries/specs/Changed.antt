@@ -6,7 +6,8 @@ use Prim.Native.Nat.{ℕ, _/_, _≤_}
 use Rattle.sizes.specs.Sizes.{largestLimit}
 use Rattle.lru.specs.Slots.{Cache}
 use Rattle.lru.specs.Sound.{Live, InUse}
-use Rattle.slots.specs.Layout.{Room, cacheOf}
+use Rattle.sizes.specs.BothStores.{Room}
+use Rattle.slots.specs.Layout.{cacheOf}
 use Rattle.slots.specs.Stores.{putPrev, putNext, Kept}
 
 -- the words of the slots 0 to n are in the store

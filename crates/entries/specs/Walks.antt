@@ -8,7 +8,8 @@ use Rattle.prefix.specs.Prefix.{common}
 use Rattle.lru.specs.Sound.{Live}
 use Rattle.lru.specs.Changes as walking
 use Rattle.lru.specs.Changes.{passes, towards, walk, find}
-use Rattle.slots.specs.Layout.{slotWord, word, entriesHeld, cacheOf}
+use Rattle.sizes.specs.BothStores.{slotWord, word}
+use Rattle.slots.specs.Layout.{entriesHeld, cacheOf}
 use Rattle.entries.specs.Caches.{SoundEntries}
 use Rattle.entries.specs.declared.find.Turn.{Turn}
 use Rattle.entries.specs.declared.find.Turn.the-variants.{On, End}

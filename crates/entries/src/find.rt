@@ -7,7 +7,8 @@ ghost use lib.ListN.{getD};
 ghost use Rattle.prefix.specs.Addresses.{addressBits, ipv4Bits};
 ghost use Rattle.sizes.specs.Sizes.{largestLimit};
 ghost use Rattle.lru.specs.Slots.{cellOf};
-ghost use Rattle.slots.specs.Layout.{entriesHeld, Shaped, Room};
+ghost use Rattle.sizes.specs.BothStores.{Room};
+ghost use Rattle.slots.specs.Layout.{entriesHeld, Shaped};
 ghost use Rattle.entries.specs.Caches.{NearestTo};
 ghost use Rattle.entries.specs.Walks.{CommonWith, Turned, Walked};
 

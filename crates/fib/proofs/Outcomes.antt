@@ -22,8 +22,8 @@ use Rattle.model.proofs.Match.{OneEach, one-each}
 use Rattle.model.proofs.Lookups.{lookup-outcome}
 use Rattle.model.proofs.Updates.{update-outcome, update-refused, only-refreshed, refreshed-is}
 use Rattle.model.proofs.SameRoutes.{flip, refreshed-same, removed-same, changed-same}
-use Rattle.nodes.specs.Layout as nodes
-use Rattle.slots.specs.Layout as slots
+use Rattle.sizes.specs.BothStores.{limitOf, SetUp}
+use Rattle.slots.specs.Layout.{Shaped}
 use Rattle.table.specs.Tables.{routes, TableSetUp}
 use Rattle.entries.specs.Caches.{entries}
 use Rattle.cache.specs.Calls.{CacheSetUp}
@@ -63,13 +63,13 @@ pub lookup-does : {table cache c : List ℕ} {t : Tallies} {address : ℕ} {r : 
     → SoundPair table cache
     → (SoundPair table cache → LookedUp table cache c t address r)
     → (evicted : ℕ)
-    × LookupOutcome (routes table) (entries cache) (slots.limitOf cache) (bits 32 address) (record { answer = answerOf (r .answer); cache = entries c; evicted = evicted })
+    × LookupOutcome (routes table) (entries cache) (limitOf cache) (bits 32 address) (record { answer = answerOf (r .answer); cache = entries c; evicted = evicted })
     × (r .tallies ≡ tallied t (answerOf (r .answer)) evicted)
 unfolding step looked
 lookup-does {table} {cache} {c} {t} {address} {r} S A =
     let a = A S in
-    let l : model.Looked = lookup (routes table) (entries cache) (slots.limitOf cache) (bits 32 address) in
-    let o : LookupOutcome (routes table) (entries cache) (slots.limitOf cache) (bits 32 address) l = lookup-outcome (legal-pair S) (bits 32 address) (length-bits 32 address) (omega (arith, S .its-cache .shaped .legal .0)) in
+    let l : model.Looked = lookup (routes table) (entries cache) (limitOf cache) (bits 32 address) in
+    let o : LookupOutcome (routes table) (entries cache) (limitOf cache) (bits 32 address) l = lookup-outcome (legal-pair S) (bits 32 address) (length-bits 32 address) (omega (arith, S .its-cache .shaped .legal .0)) in
     let e : answerOf (r .answer) ≡ l .answer = a .answer in
     let f : entries c ≡ l .cache = a .state .are-entries in
     let g : r .tallies ≡ tallied t (l .answer) (l .evicted) = a .state .are-tallies in
@@ -161,7 +161,7 @@ pub unfit-alike : {table cache w x c d : List ℕ} {t : Tallies} {u : Update} {r
     → UpdatePromise table cache w c t u r
     → UpdatePromise table cache x d t u q
     → firstRefusal u ≡ 0
-    → ¬ (slots.Shaped cache)
+    → ¬ (Shaped cache)
     → (r ≡ q) × (w ≡ x) × (c ≡ d)
 unfit-alike A B z n = refused-alike (A .unfit z n .1) (B .unfit z n .1) (A .unfit z n .0 ∙ sym (B .unfit z n .0))
 
@@ -214,31 +214,30 @@ short-not-done e = omega (arith, ap setupNumber e)
 pub bad-not-done : ¬ (BadLimit ≡ Done)
 bad-not-done e = omega (arith, ap setupNumber e)
 
--- what is read of two stores that set-ups of one store leave
-read-alike : {A : Type 0} (read : List ℕ → A) {w a b : List ℕ} (r : Setup) → (r ≡ Done → read a ≡ read b) → (¬ (r ≡ Done) → a ≡ w) → (¬ (r ≡ Done) → b ≡ w) → read a ≡ read b
-read-alike read Done f m n = f refl
-read-alike read ShortStore f m n = ap read (m short-not-done ∙ sym (n short-not-done))
-read-alike read BadLimit f m n = ap read (m bad-not-done ∙ sym (n bad-not-done))
+-- set-ups of one store have one answer, and leave what reads alike, if it does in any two that they may make
+set-ups-alike : {A : Type 0} (read : List ℕ → A) {need : ℕ → ℕ} {Made : List ℕ → List ℕ → ℕ → Type 0} {w a b : List ℕ} {limit : ℕ} (r q : Setup)
+    → (Made w a limit → Made w b limit → read a ≡ read b) → SetUp need Made w a limit r → SetUp need Made w b limit q → (r ≡ q) × (read a ≡ read b)
+set-ups-alike read {need} {Made} {w} {a} {b} {limit} r q same A B = (e, go r q e (A .done) (B .done) (A .refused) (B .refused))
+  where
+    e : r ≡ q
+    e = A .answer ∙ sym (B .answer)
+
+    go : (x y : Setup) → x ≡ y → (x ≡ Done → Made w a limit) → (y ≡ Done → Made w b limit) → (¬ (x ≡ Done) → a ≡ w) → (¬ (y ≡ Done) → b ≡ w) → read a ≡ read b
+    go Done y f m n k l = same (m refl) (n (sym f))
+    go ShortStore y f m n k l = ap read (k short-not-done ∙ sym (l (λ z. short-not-done (f ∙ z))))
+    go BadLimit y f m n k l = ap read (k bad-not-done ∙ sym (l (λ z. bad-not-done (f ∙ z))))
 
 -- a table's set-up has one answer, and leaves one set of routes under one limit
-pub table-set-ups-alike : {w a b : List ℕ} {limit : ℕ} {r q : Setup} → TableSetUp w a limit r → TableSetUp w b limit q → (r ≡ q) × (routes a ≡ routes b) × (nodes.limitOf a ≡ nodes.limitOf b)
-table-set-ups-alike {w} {b} {r} A B =
-    let e = A .answer ∙ sym (B .answer) in
-    let kept : ¬ (r ≡ Done) → b ≡ w = λ n. B .refused (λ z. n (e ∙ z)) in (
-      e,
-      read-alike routes r (λ d. A .done d .no-routes ∙ sym (B .done (sym e ∙ d) .no-routes)) (A .refused) kept,
-      read-alike nodes.limitOf r (λ d. A .done d .its-limit ∙ sym (B .done (sym e ∙ d) .its-limit)) (A .refused) kept,
-    )
+pub table-set-ups-alike : {w a b : List ℕ} {limit : ℕ} {r q : Setup} → TableSetUp w a limit r → TableSetUp w b limit q → (r ≡ q) × (routes a ≡ routes b) × (limitOf a ≡ limitOf b)
+table-set-ups-alike {r} {q} A B =
+    let held = set-ups-alike routes r q (λ f g. f .is-empty .1 ∙ sym (g .is-empty .1)) A B in
+    (held .0, held .1, set-ups-alike limitOf r q (λ f g. f .its-limit ∙ sym (g .its-limit)) A B .1)
 
 -- a cache's set-up has one answer, and leaves one list of entries under one limit
-pub cache-set-ups-alike : {w a b : List ℕ} {limit : ℕ} {r q : Setup} → CacheSetUp w a limit r → CacheSetUp w b limit q → (r ≡ q) × (entries a ≡ entries b) × (slots.limitOf a ≡ slots.limitOf b)
-cache-set-ups-alike {w} {b} {r} A B =
-    let e = A .answer ∙ sym (B .answer) in
-    let kept : ¬ (r ≡ Done) → b ≡ w = λ n. B .refused (λ z. n (e ∙ z)) in (
-      e,
-      read-alike entries r (λ d. A .done d .0 .are-entries ∙ sym (B .done (sym e ∙ d) .0 .are-entries)) (A .refused) kept,
-      read-alike slots.limitOf r (λ d. A .done d .1 ∙ sym (B .done (sym e ∙ d) .1)) (A .refused) kept,
-    )
+pub cache-set-ups-alike : {w a b : List ℕ} {limit : ℕ} {r q : Setup} → CacheSetUp w a limit r → CacheSetUp w b limit q → (r ≡ q) × (entries a ≡ entries b) × (limitOf a ≡ limitOf b)
+cache-set-ups-alike {r} {q} A B =
+    let held = set-ups-alike entries r q (λ f g. f .is-empty .are-entries ∙ sym (g .is-empty .are-entries)) A B in
+    (held .0, held .1, set-ups-alike limitOf r q (λ f g. f .its-limit ∙ sym (g .its-limit)) A B .1)
 
 -- ---- the check
 

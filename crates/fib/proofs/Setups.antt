@@ -34,22 +34,22 @@ empty-table t c e S = none-cached (entries c) (λ E m. subst (λ (l : Table). Co
 module _ (t t′ : List ℕ) (limit : ℕ) (r : Setup) (A : TableSetUp t t′ limit r) (done : r ≡ Done) where
   -- both stores set up: the pair is sound
   pub fresh-pair : (c c′ : List ℕ) (most : ℕ) (q : Setup) → CacheSetUp c c′ most q → q ≡ Done → SoundPair t′ c′
-  fresh-pair c c′ most q B ok = let h = B .done ok .0 in empty-cache t′ c′ (A .done done .sound) (h .sound) (h .are-entries)
+  fresh-pair c c′ most q B ok = let h = B .done ok .is-empty in empty-cache t′ c′ (A .done done .is-empty .0) (h .sound) (h .are-entries)
 
   -- it holds nothing, within the limits that were asked for
   pub fresh-limits : (c c′ : List ℕ) (most : ℕ) (q : Setup) → CacheSetUp c c′ most q → q ≡ Done → limitsOf t′ c′ ≡ record { width = 32; routes = limit; entries = most }
-  fresh-limits c c′ most q B ok = rw (A .done done .its-limit, B .done ok .1)
+  fresh-limits c c′ most q B ok = rw (A .done done .its-limit, B .done ok .its-limit)
 
   pub fresh-holds : (c c′ : List ℕ) (most : ℕ) (q : Setup) → CacheSetUp c c′ most q → q ≡ Done → (routes t′ ≡ []) × (entries c′ ≡ [])
-  fresh-holds c c′ most q B ok = (A .done done .no-routes, B .done ok .0 .are-entries)
+  fresh-holds c c′ most q B ok = (A .done done .is-empty .1, B .done ok .is-empty .are-entries)
 
   -- a table that is set up again is sound with an empty cache, and with no other
   pub table-again : (c : List ℕ) → SoundEntries c → SoundPair t′ c ↔ (entries c ≡ [])
-  table-again c C = (λ S. empty-table t′ c (A .done done .no-routes) S, λ e. empty-cache t′ c (A .done done .sound) C e)
+  table-again c C = (λ S. empty-table t′ c (A .done done .is-empty .1) S, λ e. empty-cache t′ c (A .done done .is-empty .0) C e)
 
 -- a cache that is set up again is sound with every sound table
 pub cache-again : (t c c′ : List ℕ) (limit : ℕ) (r : Setup) → SoundTable t → CacheSetUp c c′ limit r → r ≡ Done → SoundPair t c′
-cache-again t c c′ limit r T B ok = let h = B .done ok .0 in empty-cache t c′ T (h .sound) (h .are-entries)
+cache-again t c c′ limit r T B ok = let h = B .done ok .is-empty in empty-cache t c′ T (h .sound) (h .are-entries)
 
 -- a refused set-up leaves a pair as it was
 pub table-refused : (t t′ c : List ℕ) (limit : ℕ) (r : Setup) → TableSetUp t t′ limit r → ¬ (r ≡ Done) → SoundPair t c → SoundPair t′ c

@@ -23,7 +23,8 @@ use Rattle.lru.proofs.Shape.{cell-low, pointed, hangs, branch-short}
 use Rattle.lru.proofs.Agreeing.{agree-sound, agree-entries}
 use Rattle.lru.proofs.Holding.{slot-entry}
 use Rattle.lru.proofs.Carrying.{carried}
-use Rattle.slots.specs.Layout.{slotWord, cellWord, word, limitOf, entriesHeld, upIn, cacheOf, packed}
+use Rattle.sizes.specs.BothStores.{slotWord, word, limitOf}
+use Rattle.slots.specs.Layout.{cellWord, entriesHeld, upIn, cacheOf, packed}
 use Rattle.entries.specs.Caches.{entries, SoundEntries}
 use Rattle.fib.proofs.Writing.{wordEnd, Words, words, words-length, words-at, words-below, addressFor, address-below, prefix-coded}
 

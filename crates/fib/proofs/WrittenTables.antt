@@ -21,7 +21,8 @@ use Rattle.trie.proofs.Moving.{Agrees, agrees-sound, agrees-branchy}
 use Rattle.trie.proofs.Holding.{held-in, agrees-routes, routes-distinct}
 use Rattle.trie.proofs.NodeSet.{slots-short}
 use Rattle.trie.proofs.Carrying.{Carried, carried}
-use Rattle.nodes.specs.Layout.{nodeWord, word, limitOf, nodesOf, routeCount, numbered, cellOf, cellNumber, childIn, trieOf}
+use Rattle.sizes.specs.BothStores.{slotWord, word, limitOf}
+use Rattle.nodes.specs.Layout.{nodesOf, routeCount, numbered, cellOf, cellNumber, childIn, trieOf}
 use Rattle.nodes.proofs.Coding.{cell-numbered, number-not-one}
 use Rattle.table.specs.Tables.{routes, SoundTable}
 use Rattle.fib.proofs.Writing.{wordEnd, Words, words, words-length, words-at, words-below, addressFor, address-below, prefix-coded}
@@ -72,12 +73,12 @@ placed-header : (limit m : ℕ) (v : Trie) (i : ℕ) → i < 1024 → placed lim
 unfolding placed
 placed-header limit m v i h = rw (lt-ltb i 1024 h)
 
-placed-node : (limit m : ℕ) (v : Trie) (k f : ℕ) → f < 8 → placed limit m v (nodeWord (suc k) f) ≡ fieldOf v k f
+placed-node : (limit m : ℕ) (v : Trie) (k f : ℕ) → f < 8 → placed limit m v (slotWord (suc k) f) ≡ fieldOf v k f
 unfolding placed
 placed-node limit m v k f h =
-    let q : (nodeWord (suc k) f - 1024) / 8 ≡ k = omega arith in
-    let r : (nodeWord (suc k) f - 1024) % 8 ≡ f = omega arith in
-    rw (le-ltb (nodeWord (suc k) f) 1024 (omega arith), q, r)
+    let q : (slotWord (suc k) f - 1024) / 8 ≡ k = omega arith in
+    let r : (slotWord (suc k) f - 1024) % 8 ≡ f = omega arith in
+    rw (le-ltb (slotWord (suc k) f) 1024 (omega arith), q, r)
 
 pub tableWords : ℕ → ℕ → ℕ → Trie → List ℕ
 tableWords size limit m v = words (placed limit m v) size
@@ -91,9 +92,9 @@ module _ (size limit m : ℕ) (v : Trie) (legal : LegalLimit limit) (enough : ta
   unfolding tableWords
   in-header i h b = words-at (placed limit m v) size i (omega arith) (rw (placed-header limit m v i h) b) ∙ placed-header limit m v i h
 
-  at-node : (k f : ℕ) → k < m → f < 8 → fieldOf v k f < wordEnd → word (tableWords size limit m v) (nodeWord (suc k) f) ≡ fieldOf v k f
+  at-node : (k f : ℕ) → k < m → f < 8 → fieldOf v k f < wordEnd → word (tableWords size limit m v) (slotWord (suc k) f) ≡ fieldOf v k f
   unfolding tableWords
-  at-node k f l h b = words-at (placed limit m v) size (nodeWord (suc k) f) (omega arith) (rw (placed-node limit m v k f h) b) ∙ placed-node limit m v k f h
+  at-node k f l h b = words-at (placed limit m v) size (slotWord (suc k) f) (omega arith) (rw (placed-node limit m v k f h) b) ∙ placed-node limit m v k f h
 
   length-is : length (tableWords size limit m v) ≡ size
   unfolding tableWords
@@ -141,12 +142,12 @@ module _ (size limit m : ℕ) (v : Trie) (legal : LegalLimit limit) (enough : ta
     unfolding routes
     routes-are = ap (routesOf (trieOf (tableWords size limit m v))) nodes-is ∙ agrees-routes agrees
 
-    short-words : (p : ℕ) → 0 < p → p ≤ m → word (tableWords size limit m v) (nodeWord p 1) ≤ 32
+    short-words : (p : ℕ) → 0 < p → p ≤ m → word (tableWords size limit m v) (slotWord p 1) ≤ 32
     unfolding fieldOf
     short-words zero a b = absurd (omega arith)
     short-words (suc k) a b = omega (arith, at-node k 1 b (omega arith) (omega (arith, short k b)), short k b)
 
-    celled-words : (p : ℕ) → 0 < p → p ≤ m → ¬ (word (tableWords size limit m v) (nodeWord p 5) ≡ 1)
+    celled-words : (p : ℕ) → 0 < p → p ≤ m → ¬ (word (tableWords size limit m v) (slotWord p 5) ≡ 1)
     unfolding fieldOf
     celled-words zero a b = absurd (omega arith)
     celled-words (suc k) a b = λ e. number-not-one (v .up k) (sym (at-node k 5 b (omega arith) (omega (arith, up-low k b))) ∙ e)

@@ -6,14 +6,13 @@ use mathlib.Core.Logic.{_↔_}
 use Prim.Native.Nat.{ℕ, _^_, _<_}
 use Rattle.prefix.specs.Bits.{bits}
 use Rattle.prefix.specs.Addresses.{ipv4Bits}
+use Rattle.sizes.specs.BothStores.{limitOf}
 use Rattle.sizes.specs.declared.Setup.{Setup}
 use Rattle.sizes.specs.declared.Setup.the-variants.{Done}
 use Rattle.tallies.specs.declared.Tallies.{Tallies}
 use Rattle.model.specs.Model.{Answer, Limits}
 use Rattle.model.specs.Runs as model
 use Rattle.model.specs.Demands.{SameRoutes, Alike, LegalState}
-use Rattle.nodes.specs.Layout as nodes
-use Rattle.slots.specs.Layout as slots
 use Rattle.table.specs.Tables.{routes, TableSetUp}
 use Rattle.entries.specs.Caches.{entries}
 use Rattle.cache.specs.Calls.{CacheSetUp}
@@ -40,12 +39,12 @@ AddressFits Unsound = Unit {0}
 -- what two caches that a call may leave have in common
 pub record SameCache (c d : List ℕ) : Type 0 where
   pub same-entries : entries c ≡ entries d
-  pub same-limit : slots.limitOf c ≡ slots.limitOf d
+  pub same-limit : limitOf c ≡ limitOf d
 
 -- and two tables: the slots may list the routes in another order
 pub record SameTable (w z : List ℕ) : Type 0 where
   pub same-routes : SameRoutes (routes w) (routes z)
-  pub same-limit : nodes.limitOf w ≡ nodes.limitOf z
+  pub same-limit : limitOf w ≡ limitOf z
 
 -- ---- runs
 

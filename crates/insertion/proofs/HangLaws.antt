@@ -25,7 +25,8 @@ use Rattle.lru.specs.Changes.{On}
 use Rattle.lru.proofs.Walking.{find-ends}
 use Rattle.lru.proofs.Holding.{entries-free}
 use Rattle.lru.proofs.Inserting.{insert-first, insert-found}
-use Rattle.slots.specs.Layout.{limitOf, entriesHeld, upIn, cacheOf, Room, Shaped}
+use Rattle.sizes.specs.BothStores.{limitOf, Room}
+use Rattle.slots.specs.Layout.{entriesHeld, upIn, cacheOf, Shaped}
 use Rattle.slots.specs.Stores.{putEntry, putChild, putUp}
 use Rattle.slots.proofs.ReadLaws.{read-up}
 use Rattle.slots.proofs.KeptLaws.{kept-then, kept-same, plain-entry}

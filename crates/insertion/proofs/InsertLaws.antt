@@ -6,7 +6,8 @@ use native.Mathlib.Omega.{arith}
 use lib.ListN.{length}
 use Rattle.prefix.specs.Bits.{Bits}
 use Rattle.lru.specs.Changes.{pushFront}
-use Rattle.slots.specs.Layout.{limitOf, entriesHeld, cacheOf, Shaped}
+use Rattle.sizes.specs.BothStores.{limitOf}
+use Rattle.slots.specs.Layout.{entriesHeld, cacheOf, Shaped}
 use Rattle.slots.specs.Stores.{putCount}
 use Rattle.slots.specs.Stores as slots
 use Rattle.slots.proofs.StoreLaws.{cache-count}

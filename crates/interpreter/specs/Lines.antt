@@ -5,6 +5,8 @@ use mathlib.Core.List.{List}
 use mathlib.Core.Option.{Option, none, some}
 use Prim.Native.Nat.{ℕ, zero, suc, _≤_}
 use lib.ListN.{take}
+use Rattle.sizes.specs.Sizes.{tableNeed, cacheNeed}
+use Rattle.sizes.specs.BothStores.{Fixed}
 use Rattle.prefix.specs.Bits.{bits}
 use Rattle.prefix.specs.Prefix.{trimmed}
 use Rattle.tallies.specs.declared.Tallies.{Tallies}
@@ -12,7 +14,7 @@ use Rattle.model.specs.Model as model
 use Rattle.model.specs.Routes.{announce, withdraw}
 use Rattle.model.specs.Runs.{Call, Outcome, look, update, step}
 use Rattle.pairs.specs.Pairs.{SoundPair, limitsOf}
-use Rattle.pairs.specs.States.{stateOf, Reached, TableKept, CacheKept}
+use Rattle.pairs.specs.States.{stateOf, Reached}
 use Rattle.lookup.specs.declared.Answer.{Answer}
 use Rattle.lookup.specs.declared.Answer.the-variants.{Hit, Miss, Drop, Unsound}
 use Rattle.script.specs.declared.Line.{Line}
@@ -54,8 +56,8 @@ pub record CallAnswered (table cache table′ cache′ : List ℕ) (tallies : Ta
   pub cleared : Cleared (r .said)
   pub state : Reached table′ cache′ (r .tallies) (stepOf table cache tallies call .state)
   pub sound : SoundPair table′ cache′
-  pub table-kept : TableKept table table′
-  pub cache-kept : CacheKept cache cache′
+  pub table-kept : Fixed tableNeed table table′
+  pub cache-kept : Fixed cacheNeed cache cache′
 
 -- `A address length hop`, `W address length`, `L address`; a bad line changes nothing, on any stores
 abbrev pub LineAnswered : List ℕ → List ℕ → List ℕ → List ℕ → Tallies → Line → Answered → Type 0

@@ -7,6 +7,8 @@ use Prim.Native.Nat.{ℕ, suc, max, _-_, _≤_, _<_}
 use native.Mathlib.Decide.{ℕ-discrete}
 use native.Mathlib.Omega.{arith}
 use lib.ListN.{length, take}
+use Rattle.sizes.specs.Sizes.{cacheNeed}
+use Rattle.sizes.specs.BothStores.{Fixed, limitOf}
 use Rattle.prefix.specs.Bits.{bits}
 use Rattle.prefix.specs.Prefix.{contains}
 use Rattle.prefix.specs.Addresses.{addressBits, ipv4Bits}
@@ -30,7 +32,7 @@ use Rattle.model.proofs.Legal.{legal-lookup}
 use Rattle.lru.specs.Sound as lru
 use Rattle.lru.proofs.Shape.{no-overlap}
 use Rattle.lru.proofs.Holding.{first-entry, omit-entry}
-use Rattle.slots.specs.Layout.{limitOf, entriesHeld, cacheOf}
+use Rattle.slots.specs.Layout.{entriesHeld, cacheOf}
 use Rattle.slots.specs.Headers.{HeaderRead}
 use Rattle.slots.specs.declared.Header.{Header}
 use Rattle.slots.specs.declared.Shape.{Shape}
@@ -43,7 +45,6 @@ use Rattle.entries.specs.Caches.{entries, Slot, entryIn, othersIn, Free, SoundE
 use Rattle.entries.specs.declared.find.Nearest.{Nearest}
 use Rattle.entries.specs.declared.find.Nearest.the-variants.{Hit, Miss}
 use Rattle.pairs.specs.Pairs.{SoundPair}
-use Rattle.pairs.specs.States.{CacheKept}
 use Rattle.lookup.specs.Promises.{answerOf, ClearedIn, LookedUp}
 use Rattle.lookup.specs.Lookups.{Missed, LookedAt, Used, Stored}
 use Rattle.lookup.specs.declared.Answer.{Answer}
@@ -63,7 +64,7 @@ none-first f c h = go (first f c) refl
 -- the outcome is the model's if the answer, the tallies and the entries are
 finish : {table cache cache′ : List ℕ} {tallies : Tallies} (x : Address) {r : Looked} (l : model.Looked) → SoundPair table cache
     → lookup (routes table) (entries cache) (limitOf cache) (ipv4Bits x) ≡ l
-    → answerOf (r .answer) ≡ l .answer → ClearedIn (r .answer) → r .tallies ≡ tallied tallies (l .answer) (l .evicted) → Holds cache′ (l .cache) → CacheKept cache cache′
+    → answerOf (r .answer) ≡ l .answer → ClearedIn (r .answer) → r .tallies ≡ tallied tallies (l .answer) (l .evicted) → Holds cache′ (l .cache) → Fixed cacheNeed cache cache′
     → LookedAt table cache cache′ tallies (ipv4Bits x) r
 unfolding step looked
 finish {table} {cache} {cache′} {tallies} x {r} l S z a b t h k = record {

@@ -15,7 +15,8 @@ use Rattle.tallies.specs.declared.Tallies.{Tallies}
 use Rattle.model.specs.Model as model
 use Rattle.model.specs.Model.{Entry}
 use Rattle.model.proofs.ListLaws.{take-in}
-use Rattle.slots.specs.Layout.{slotWord, word, limitOf, entriesHeld, cacheOf, Shaped}
+use Rattle.sizes.specs.BothStores.{slotWord, word, limitOf}
+use Rattle.slots.specs.Layout.{entriesHeld, cacheOf, Shaped}
 use Rattle.slots.specs.declared.Header.{Header}
 use Rattle.entries.specs.Caches.{entries, entryIn, othersIn, Free, SoundEntries, Kept, Holds, Removes, Oldest}
 use Rattle.lookup.specs.Lookups.{Used, FirstBits, Stored, Cleared, MadeRoom}

@@ -3,6 +3,8 @@ use mathlib.Core.Path.{_≡_}
 use mathlib.Core.List.{List, _∷_, map}
 use Prim.Native.Nat.{ℕ, suc, _-_, _≤_, _<_}
 use lib.ListN.{length, take}
+use Rattle.sizes.specs.Sizes.{cacheNeed}
+use Rattle.sizes.specs.BothStores.{Fixed, limitOf}
 use Rattle.prefix.specs.Bits.{Bits, bits}
 use Rattle.prefix.specs.Prefix.{common, trimmed}
 use Rattle.tallies.specs.Counting.{afterHit, afterMiss}
@@ -11,10 +13,10 @@ use Rattle.model.specs.Lists.{largest}
 use Rattle.model.specs.Model as model
 use Rattle.model.specs.Runs.{Outcome, step, look}
 use Rattle.model.specs.Demands.{NoneCached}
-use Rattle.slots.specs.Layout.{limitOf, entriesHeld, cacheOf, Shaped}
+use Rattle.slots.specs.Layout.{entriesHeld, cacheOf, Shaped}
 use Rattle.entries.specs.Caches.{entries, entryIn, othersIn, SoundEntries, Holds}
 use Rattle.pairs.specs.Pairs.{SoundPair, limitsOf}
-use Rattle.pairs.specs.States.{stateOf, Reached, CacheKept}
+use Rattle.pairs.specs.States.{stateOf, Reached}
 use Rattle.lookup.specs.Promises.{answerOf, ClearedIn}
 use Rattle.lookup.specs.declared.Answer.the-variants.{Hit}
 use Rattle.lookup.specs.declared.Looked.{Looked}
@@ -31,7 +33,7 @@ pub record LookedAt (table cache cache′ : List ℕ) (tallies : Tallies) (X : B
   pub cleared : ClearedIn (r .answer)
   pub state : Reached table cache′ (r .tallies) (lookAt table cache tallies X .state)
   pub sound : SoundPair table cache′
-  pub kept : CacheKept cache cache′
+  pub kept : Fixed cacheNeed cache cache′
 
 -- ---- its parts
 
@@ -44,7 +46,7 @@ pub record Missed (w : List ℕ) (X : Bits) (past : ℕ) : Type 0 where
 pub record Used (w w′ : List ℕ) (k : ℕ) (tallies : Tallies) (r : Looked) : Type 0 where
   pub says : r ≡ record { answer = Hit (cacheOf w .hop k); tallies = afterHit tallies }
   pub holds : SoundEntries w → Holds w′ (entryIn w k ∷ othersIn w k)
-  pub kept : CacheKept w w′
+  pub kept : Fixed cacheNeed w w′
 
 -- the address of the first n bits of X
 pub record FirstBits (X : Bits) (n address : ℕ) : Type 0 where
@@ -57,7 +59,7 @@ pub record Stored (w w′ : List ℕ) (X : Bits) (n hop examined : ℕ) (tallies
   pub cleared : ClearedIn (r .answer)
   pub counted : r .tallies ≡ afterMiss tallies (suc (length (entries w)) - limitOf w)
   pub holds : Holds w′ (take (limitOf w) (record { prefix = take n X; hop = hop } ∷ entries w))
-  pub kept : CacheKept w w′
+  pub kept : Fixed cacheNeed w w′
 
 -- so many entries are left, and there is room for one more
 pub record Cleared (w w′ : List ℕ) (held : ℕ) : Type 0 where
@@ -65,7 +67,7 @@ pub record Cleared (w w′ : List ℕ) (held : ℕ) : Type 0 where
   pub is-held : held ≡ entriesHeld w′
   pub room : held < limitOf w′
   pub fewer : held ≤ entriesHeld w
-  pub kept : CacheKept w w′
+  pub kept : Fixed cacheNeed w w′
   pub holds : SoundEntries w → Holds w′ (take (limitOf w - 1) (entries w))
   pub evicted : SoundEntries w → entriesHeld w - held ≡ suc (length (entries w)) - limitOf w
 

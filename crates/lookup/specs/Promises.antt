@@ -3,13 +3,15 @@ use mathlib.Core.Path.{_≡_}
 use mathlib.Core.List.{List}
 use Prim.Native.Nat.{ℕ, _≤_}
 use lib.ListN.{take}
+use Rattle.sizes.specs.Sizes.{cacheNeed}
+use Rattle.sizes.specs.BothStores.{Fixed}
 use Rattle.prefix.specs.Bits.{bits}
 use Rattle.prefix.specs.Prefix.{trimmed}
 use Rattle.tallies.specs.declared.Tallies.{Tallies}
 use Rattle.model.specs.Model as model
 use Rattle.model.specs.Runs.{Outcome, step, look}
 use Rattle.pairs.specs.Pairs.{SoundPair, limitsOf}
-use Rattle.pairs.specs.States.{stateOf, Reached, CacheKept}
+use Rattle.pairs.specs.States.{stateOf, Reached}
 use Rattle.lookup.specs.declared.Answer.{Answer}
 use Rattle.lookup.specs.declared.Answer.the-variants.{Hit, Miss, Drop, Unsound}
 use Rattle.lookup.specs.declared.Looked.{Looked}
@@ -40,7 +42,7 @@ pub record LookedUp (table cache cache′ : List ℕ) (tallies : Tallies) (addre
   pub cleared : ClearedIn (r .answer)
   pub state : Reached table cache′ (r .tallies) (lookStep table cache tallies address .state)
   pub sound : SoundPair table cache′
-  pub kept : CacheKept cache cache′
+  pub kept : Fixed cacheNeed cache cache′
 
 -- ---- a refusal: 9, "with all other parts of the answer 0"
 

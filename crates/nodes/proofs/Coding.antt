@@ -6,7 +6,8 @@ use native.Mathlib.Omega.{arith}
 use Rattle.prefix.specs.Bits.{one?, digit}
 use Rattle.prefix.proofs.BitLaws.{digit-bit, bit-digit, digit-below}
 use Rattle.trie.specs.Trie.{Cell, Root, Kid}
-use Rattle.nodes.specs.Layout.{nodeWord, cellWord, numbered, cellOf, cellNumber}
+use Rattle.sizes.specs.BothStores.{slotWord}
+use Rattle.nodes.specs.Layout.{cellWord, numbered, cellOf, cellNumber}
 
 -- ---- a number of a node, or a mark
 
@@ -70,5 +71,5 @@ number-celled (suc q) n = omega (arith, digit-bit (suc q))
 pub cell-injective : (q r : ℕ) → ¬ (q ≡ 1) → ¬ (r ≡ 1) → cellOf q ≡ cellOf r → q ≡ r
 cell-injective q r n m e = cc (number-celled q n, number-celled r m)
 
-pub side-word : (p b : ℕ) → b < 2 → cellWord (2 * p + b) ≡ nodeWord p (3 + b)
+pub side-word : (p b : ℕ) → b < 2 → cellWord (2 * p + b) ≡ slotWord p (3 + b)
 side-word p b l = omega arith

@@ -8,7 +8,8 @@ use native.Mathlib.Omega.{arith}
 use lib.ListN.{length, take, drop, set, length-set, length-append, List·getD-append}
 use lib.Seq.{sets, sets-eq, length-take-le, getD-append-add, getD-set-other, set-getD, drop-set-lt}
 use Rattle.sizes.specs.Sizes.{LegalLimit, tableNeed}
-use Rattle.nodes.specs.Layout.{word, limitOf, nodesOf, routeCount, Shaped, Room}
+use Rattle.sizes.specs.BothStores.{word, limitOf, Room}
+use Rattle.nodes.specs.Layout.{nodesOf, routeCount, Shaped}
 use Rattle.nodes.specs.Stores.{putMark, putUp, putChild, filledAt, putNode, putCounts, emptied, nodeIn}
 use Rattle.nodes.specs.declared.Node.{Node}
 

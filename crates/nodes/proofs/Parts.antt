@@ -8,7 +8,7 @@ use lib.ListN.{length, take, drop, length-set, length-drop}
 use lib.Seq.{length-take-le}
 use borrow.Rule.Slice.PartMut.{midOf, putMid, put-same}
 use Rattle.sizes.proofs.PartLaws.{part-set}
-use Rattle.nodes.specs.Layout.{Room}
+use Rattle.sizes.specs.BothStores.{Room}
 use Rattle.nodes.specs.Stores.{filledAt, putNode}
 use Rattle.nodes.specs.declared.Node.{Node}
 

@@ -6,7 +6,8 @@ use native.Mathlib.Decide.{ℕ-discrete, decLt}
 use native.Mathlib.Omega.{arith}
 use lib.ListN.{length, set}
 use lib.Seq.{getD-set-same, getD-set-other, set-out}
-use Rattle.nodes.specs.Layout.{nodeWord, word, Plain, Room}
+use Rattle.sizes.specs.BothStores.{slotWord, word, Room}
+use Rattle.nodes.specs.Layout.{Plain}
 use Rattle.nodes.specs.Stores.{putMark, putUp, putChild, filledAt, putNode, putCounts, nodeIn}
 use Rattle.nodes.specs.declared.Node.{Node}
 use Rattle.nodes.proofs.Keeping.{node-back}
@@ -21,10 +22,10 @@ stored-or-kept P w i v j new old = go (ℕ-discrete j i) (decLt i (length w))
     go (yes e) (no n) = rw (set-out w i v (omega arith)) old
 
 module _ {w : List ℕ} {m : ℕ} where
-  plain-set : (i v : ℕ) → ((p : ℕ) → nodeWord p 1 ≡ i → v ≤ 32) → ((p : ℕ) → nodeWord p 5 ≡ i → ¬ (v ≡ 1)) → Plain w m → Plain (set w i v) m
+  plain-set : (i v : ℕ) → ((p : ℕ) → slotWord p 1 ≡ i → v ≤ 32) → ((p : ℕ) → slotWord p 5 ≡ i → ¬ (v ≡ 1)) → Plain w m → Plain (set w i v) m
   plain-set i v l u h = record {
-    short = λ p a b. stored-or-kept (λ x. x ≤ 32) w i v (nodeWord p 1) (l p) (h .short p a b);
-    celled = λ p a b. stored-or-kept (λ x. ¬ (x ≡ 1)) w i v (nodeWord p 5) (u p) (h .celled p a b);
+    short = λ p a b. stored-or-kept (λ x. x ≤ 32) w i v (slotWord p 1) (l p) (h .short p a b);
+    celled = λ p a b. stored-or-kept (λ x. ¬ (x ≡ 1)) w i v (slotWord p 5) (u p) (h .celled p a b);
   }
 
   pub plain-mark : (p mark : ℕ) → Plain w m → Plain (putMark w p mark) m
@@ -70,10 +71,10 @@ module _ (w : List ℕ) (m : ℕ) (n : Node) (len : n .length ≤ 32) (cell : ¬
       old : Plain (putNode w p n) m
       old = plain-node p h
 
-      short : (q : ℕ) → 0 < q → q ≤ p → Dec (q < p) → word (putNode w p n) (nodeWord q 1) ≤ 32
+      short : (q : ℕ) → 0 < q → q ≤ p → Dec (q < p) → word (putNode w p n) (slotWord q 1) ≤ 32
       short q a b (yes l) = old .short q a (omega arith)
       short q a b (no ne) = let z : q ≡ p = omega arith in rw (z, ap (λ (x : Node). x .length) back) len
 
-      celled : (q : ℕ) → 0 < q → q ≤ p → Dec (q < p) → ¬ (word (putNode w p n) (nodeWord q 5) ≡ 1)
+      celled : (q : ℕ) → 0 < q → q ≤ p → Dec (q < p) → ¬ (word (putNode w p n) (slotWord q 5) ≡ 1)
       celled q a b (yes l) = old .celled q a (omega arith)
       celled q a b (no ne) = let z : q ≡ p = omega arith in rw (z, ap (λ (x : Node). x .up) back) cell

@@ -15,7 +15,8 @@ use Rattle.prefix.proofs.BitLaws.{digit-below}
 use Rattle.trie.specs.Trie.{Cell, Root, Kid, Trie}
 use Rattle.trie.specs.Updates.{upd, cell-dec, setNode, setHop, setChild, setUp, setSlot}
 use Rattle.trie.proofs.Stores.{upd-same, upd-other}
-use Rattle.nodes.specs.Layout.{nodeWord, cellWord, word, numbered, cellOf, cellNumber, childIn, trieOf, Room}
+use Rattle.sizes.specs.BothStores.{slotWord, word, Room}
+use Rattle.nodes.specs.Layout.{cellWord, numbered, cellOf, cellNumber, childIn, trieOf}
 use Rattle.nodes.specs.Stores.{putMark, putUp, putChild, putNode, putCounts, filledAt, nodeIn, emptied}
 use Rattle.nodes.specs.declared.Node.{Node}
 use Rattle.nodes.proofs.Keeping.{mark-header, child-header}
@@ -36,19 +37,19 @@ module _ (w : List ℕ) where
     slot : suc (p - 1) ≡ p
     slot = omega arith
 
-    pub prefix-words : prefixOf 32 (word w (nodeWord p 0)) (word w (nodeWord p 1)) ≡ trieOf w .prefix (p - 1)
+    pub prefix-words : prefixOf 32 (word w (slotWord p 0)) (word w (slotWord p 1)) ≡ trieOf w .prefix (p - 1)
     unfolding trieOf
     prefix-words = rw slot
 
-    pub hop-word : numbered (word w (nodeWord p 2)) ≡ trieOf w .hop (p - 1)
+    pub hop-word : numbered (word w (slotWord p 2)) ≡ trieOf w .hop (p - 1)
     unfolding trieOf
     hop-word = rw slot
 
-    pub up-word : cellOf (word w (nodeWord p 5)) ≡ trieOf w .up (p - 1)
+    pub up-word : cellOf (word w (slotWord p 5)) ≡ trieOf w .up (p - 1)
     unfolding trieOf
     up-word = rw slot
 
-    pub side-child : (b : ℕ) → b < 2 → numbered (word w (nodeWord p (3 + b))) ≡ trieOf w .child (Kid (p - 1) (one? b))
+    pub side-child : (b : ℕ) → b < 2 → numbered (word w (slotWord p (3 + b))) ≡ trieOf w .child (Kid (p - 1) (one? b))
     side-child b l =
         rw (side-word p b l, cell-side p b pos l) at (child-word (2 * p + b) (λ z. omega arith))
 
@@ -107,7 +108,7 @@ new-child w cell p n room =
     only x z = let e : cellNumber x ≡ cell = omega arith in sym (cell-numbered x) ∙ ap cellOf e
 
 abbrev field : ℕ → ℕ → ℕ
-field f k = nodeWord (suc k) f
+field f k = slotWord (suc k) f
 
 abbrev prefixes : (ℕ → ℕ) → (ℕ → ℕ) → ℕ → Bits
 prefixes address length k = prefixOf 32 (address k) (length k)
@@ -136,19 +137,19 @@ module _ (w : List ℕ) where
     unfolding putMark setHop trieOf
     trie-mark mark =
         trie-ext
-        (same-prefixes w (nodeWord p 2) mark (λ k z. omega arith) (λ k z. omega arith))
-        (changed numbered (field 2) w (nodeWord p 2) mark ℕ-discrete (p - 1) (omega arith) (λ x z. omega arith) (omega arith))
-        (same-children w (nodeWord p 2) mark (λ q z. omega arith))
-        (kept cellOf (field 5) w (nodeWord p 2) mark (λ k z. omega arith))
+        (same-prefixes w (slotWord p 2) mark (λ k z. omega arith) (λ k z. omega arith))
+        (changed numbered (field 2) w (slotWord p 2) mark ℕ-discrete (p - 1) (omega arith) (λ x z. omega arith) (omega arith))
+        (same-children w (slotWord p 2) mark (λ q z. omega arith))
+        (kept cellOf (field 5) w (slotWord p 2) mark (λ k z. omega arith))
 
     pub trie-up : (cell : ℕ) → trieOf (putUp w p cell) ≡ setUp (trieOf w) (p - 1) (cellOf cell)
     unfolding putUp setUp trieOf
     trie-up cell =
         trie-ext
-        (same-prefixes w (nodeWord p 5) cell (λ k z. omega arith) (λ k z. omega arith))
-        (kept numbered (field 2) w (nodeWord p 5) cell (λ k z. omega arith))
-        (same-children w (nodeWord p 5) cell (λ q z. omega arith))
-        (changed cellOf (field 5) w (nodeWord p 5) cell ℕ-discrete (p - 1) (omega arith) (λ x z. omega arith) (omega arith))
+        (same-prefixes w (slotWord p 5) cell (λ k z. omega arith) (λ k z. omega arith))
+        (kept numbered (field 2) w (slotWord p 5) cell (λ k z. omega arith))
+        (same-children w (slotWord p 5) cell (λ q z. omega arith))
+        (changed cellOf (field 5) w (slotWord p 5) cell ℕ-discrete (p - 1) (omega arith) (λ x z. omega arith) (omega arith))
 
   pub trie-child : (cell p : ℕ) → ¬ (cell ≡ 1) → Room w (cell / 2) → trieOf (putChild w cell p) ≡ setChild (trieOf w) (cellOf cell) (numbered p)
   unfolding putChild setChild trieOf
@@ -179,7 +180,7 @@ prefixes-upd a l k x y = fun-ext (λ i. go i (ℕ-discrete i k))
     go i (no n) = simp (upd-other, n)
 
 putPrefix : List ℕ → ℕ → ℕ → ℕ → List ℕ
-putPrefix w p address length = set (set w (nodeWord p 0) address) (nodeWord p 1) length
+putPrefix w p address length = set (set w (slotWord p 0) address) (slotWord p 1) length
 
 setPrefix : Trie → ℕ → Bits → Trie
 setPrefix v k p = record { prefix = upd ℕ-discrete (v .prefix) k p; hop = v .hop; child = v .child; up = v .up }
@@ -188,17 +189,17 @@ module _ (w : List ℕ) (p : ℕ) (pos : 0 < p) (room : Room w p) where
   trie-prefix : (a l : ℕ) → trieOf (putPrefix w p a l) ≡ setPrefix (trieOf w) (p - 1) (prefixOf 32 a l)
   unfolding putPrefix setPrefix trieOf
   trie-prefix a l =
-      let u : List ℕ = set w (nodeWord p 0) a in
+      let u : List ℕ = set w (slotWord p 0) a in
       trie-ext
       (ap₂ prefixes
-      (kept (λ x. x) (field 0) u (nodeWord p 1) l (λ k z. omega arith)
-      ∙ changed (λ x. x) (field 0) w (nodeWord p 0) a ℕ-discrete (p - 1) (omega arith) (λ x z. omega arith) (omega arith))
-      (changed (λ x. x) (field 1) u (nodeWord p 1) l ℕ-discrete (p - 1) (omega arith) (λ x z. omega arith) (simp length-set (omega arith))
-      ∙ ap (λ (g : ℕ → ℕ). upd ℕ-discrete g (p - 1) l) (kept (λ x. x) (field 1) w (nodeWord p 0) a (λ k z. omega arith)))
+      (kept (λ x. x) (field 0) u (slotWord p 1) l (λ k z. omega arith)
+      ∙ changed (λ x. x) (field 0) w (slotWord p 0) a ℕ-discrete (p - 1) (omega arith) (λ x z. omega arith) (omega arith))
+      (changed (λ x. x) (field 1) u (slotWord p 1) l ℕ-discrete (p - 1) (omega arith) (λ x z. omega arith) (simp length-set (omega arith))
+      ∙ ap (λ (g : ℕ → ℕ). upd ℕ-discrete g (p - 1) l) (kept (λ x. x) (field 1) w (slotWord p 0) a (λ k z. omega arith)))
       ∙ prefixes-upd _ _ (p - 1) a l)
-      (kept numbered (field 2) u (nodeWord p 1) l (λ k z. omega arith) ∙ kept numbered (field 2) w (nodeWord p 0) a (λ k z. omega arith))
-      (same-children u (nodeWord p 1) l (λ q z. omega arith) ∙ same-children w (nodeWord p 0) a (λ q z. omega arith))
-      (kept cellOf (field 5) u (nodeWord p 1) l (λ k z. omega arith) ∙ kept cellOf (field 5) w (nodeWord p 0) a (λ k z. omega arith))
+      (kept numbered (field 2) u (slotWord p 1) l (λ k z. omega arith) ∙ kept numbered (field 2) w (slotWord p 0) a (λ k z. omega arith))
+      (same-children u (slotWord p 1) l (λ q z. omega arith) ∙ same-children w (slotWord p 0) a (λ q z. omega arith))
+      (kept cellOf (field 5) u (slotWord p 1) l (λ k z. omega arith) ∙ kept cellOf (field 5) w (slotWord p 0) a (λ k z. omega arith))
 
   node-stores : (n : Node) → putNode w p n ≡ putUp (putChild (putChild (putMark (putPrefix w p (n .address) (n .length)) p (n .mark)) (2 * p + 0) (n .left)) (2 * p + 1) (n .right)) p (n .up)
   unfolding putNode filledAt putUp putChild putMark putPrefix

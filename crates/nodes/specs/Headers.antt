@@ -2,11 +2,8 @@
 use mathlib.Core.Path.{_≡_}
 use mathlib.Core.List.{List}
 use Prim.Native.Nat.{ℕ}
-use lib.ListN.{length}
-use Rattle.sizes.specs.Sizes.{tableNeed, setupFor}
-use Rattle.sizes.specs.declared.Setup.{Setup}
-use Rattle.sizes.specs.declared.Setup.the-variants.{Done}
-use Rattle.nodes.specs.Layout.{limitOf, nodesOf, routeCount, Shaped}
+use Rattle.sizes.specs.BothStores.{limitOf}
+use Rattle.nodes.specs.Layout.{nodesOf, routeCount, Shaped}
 use Rattle.nodes.specs.Stores.{emptied}
 use Rattle.nodes.specs.declared.Shape.{Shape}
 use Rattle.nodes.specs.declared.Shape.the-variants.{Fits, Broken}
@@ -16,8 +13,6 @@ abbrev pub HeaderRead : List ℕ → Shape → Type 0
 HeaderRead w (Fits h) = Shaped w × (h .limit ≡ limitOf w) × (h .nodes ≡ nodesOf w) × (h .routes ≡ routeCount w)
 HeaderRead w Broken = ¬ (Shaped w)
 
--- set-up empties a store that is large enough for a legal limit, and leaves any other as it was
-pub record SetUp (entry exit : List ℕ) (limit : ℕ) (r : Setup) : Type 0 where
-  pub answer : r ≡ setupFor tableNeed (length entry) limit
-  pub done : r ≡ Done → exit ≡ emptied entry limit
-  pub refused : ¬ (r ≡ Done) → exit ≡ entry
+-- what set-up makes of the store
+abbrev pub Emptied : List ℕ → List ℕ → ℕ → Type 0
+Emptied w w′ limit = w′ ≡ emptied w limit

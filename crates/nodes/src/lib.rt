@@ -15,8 +15,10 @@ ghost use Prim.Native.Nat.{_/_};
 ghost use lib.ListN.{length, take};
 ghost use Rattle.prefix.specs.Bits.{bits};
 ghost use Rattle.prefix.specs.Addresses.{addressBits};
-ghost use Rattle.nodes.specs.Layout.{nodeWord, cellWord, word, Room};
-ghost use Rattle.nodes.specs.Headers.{HeaderRead, SetUp};
+ghost use Rattle.sizes.specs.Sizes.{tableNeed};
+ghost use Rattle.sizes.specs.BothStores.{slotWord, word, Room, SetUp};
+ghost use Rattle.nodes.specs.Layout.{cellWord};
+ghost use Rattle.nodes.specs.Headers.{HeaderRead, Emptied};
 ghost use Rattle.nodes.specs.Stores.{putMark, putUp, putChild, putNode, putCounts, filledAt, nodeIn};
 
 pub const LIMIT: usize = 0;
@@ -71,7 +73,7 @@ pub fn read_header(store: &[u32]) -> Shape
 
 // An empty table, where the store is large enough for the limit. Nothing of the store is read.
 pub fn set_up_table(store: &mut [u32], limit: u32) -> Setup
-    ensures { λ r. ⌜ SetUp (now (store .entry)) (now (store .exit)) limit r ⌝ }
+    ensures { λ r. ⌜ SetUp tableNeed Emptied (now (store .entry)) (now (store .exit)) limit r ⌝ }
 {
     let answer = sizes::table_setup(store.len(), limit);
     let Setup::Done = answer else {
@@ -96,14 +98,14 @@ pub fn set_counts(store: &mut [u32], nodes: u32, routes: u32)
 
 pub fn address_of(store: &[u32], p: u32) -> Address
     requires { ⌜ Room (now store) p ⌝ }
-    ensures { λ r. ⌜ take 32 (addressBits r) ≡ bits 32 (word (now (store .entry)) (nodeWord p 0)) ⌝ }
+    ensures { λ r. ⌜ take 32 (addressBits r) ≡ bits 32 (word (now (store .entry)) (slotWord p 0)) ⌝ }
 {
     prefix::from_ipv4(store[SLOTS + 8 * (p as usize)])
 }
 
 pub fn length_of(store: &[u32], p: u32) -> u32
     requires { ⌜ Room (now store) p ⌝ }
-    ensures { λ r. ⌜ r ≡ word (now (store .entry)) (nodeWord p 1) ⌝ }
+    ensures { λ r. ⌜ r ≡ word (now (store .entry)) (slotWord p 1) ⌝ }
 {
     store[SLOTS + 8 * (p as usize) + 1]
 }
@@ -111,14 +113,14 @@ pub fn length_of(store: &[u32], p: u32) -> u32
 // The hop and one more, or 0 where the node is a branch.
 pub fn mark_of(store: &[u32], p: u32) -> u32
     requires { ⌜ Room (now store) p ⌝ }
-    ensures { λ r. ⌜ r ≡ word (now (store .entry)) (nodeWord p 2) ⌝ }
+    ensures { λ r. ⌜ r ≡ word (now (store .entry)) (slotWord p 2) ⌝ }
 {
     store[SLOTS + 8 * (p as usize) + 2]
 }
 
 pub fn up_of(store: &[u32], p: u32) -> u32
     requires { ⌜ Room (now store) p ⌝ }
-    ensures { λ r. ⌜ r ≡ word (now (store .entry)) (nodeWord p 5) ⌝ }
+    ensures { λ r. ⌜ r ≡ word (now (store .entry)) (slotWord p 5) ⌝ }
 {
     store[SLOTS + 8 * (p as usize) + 5]
 }

@@ -22,7 +22,8 @@ use Rattle.model.specs.Demands.{Covered}
 use Rattle.model.proofs.ListLaws.{any-false, none-any}
 use Rattle.lru.specs.Sound as lru
 use Rattle.lru.proofs.Holding.{slot-entry, entry-slot}
-use Rattle.slots.specs.Layout.{slotWord, word, entriesHeld, cacheOf}
+use Rattle.sizes.specs.BothStores.{slotWord, word}
+use Rattle.slots.specs.Layout.{entriesHeld, cacheOf}
 use Rattle.slots.specs.Headers.{HeaderRead}
 use Rattle.slots.specs.declared.Shape.{Shape}
 use Rattle.slots.specs.declared.Shape.the-variants.{Broken}

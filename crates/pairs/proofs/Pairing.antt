@@ -12,8 +12,9 @@ use Rattle.model.specs.Demands.{Hop, Legal, NoLonger}
 use Rattle.trie.proofs.Holding.{in-held, routes-distinct}
 use Rattle.lru.specs.Sound as lru
 use Rattle.lru.proofs.Holding.{entries-length, entry-slot, entries-apart}
-use Rattle.nodes.specs.Layout as nodes
-use Rattle.slots.specs.Layout as slots
+use Rattle.sizes.specs.BothStores.{word, slotWord}
+use Rattle.nodes.specs.Layout.{trieOf, nodesOf}
+use Rattle.slots.specs.Layout.{entriesHeld, cacheOf}
 use Rattle.table.specs.Tables.{routes, SoundTable}
 use Rattle.entries.specs.Caches.{entries, SoundEntries}
 use Rattle.entries.proofs.EntryLaws.{entry-short}
@@ -22,20 +23,20 @@ use Rattle.pairs.specs.Pairs.{SoundPair, limitsOf}
 -- ---- the table
 
 pub routes-short : (w : List ℕ) → NoLonger 32 (routes w)
-unfolding routes nodes.trieOf
+unfolding routes trieOf
 routes-short w R i =
-    let r = in-held (nodes.trieOf w) (nodes.nodesOf w) R i in
-    let u : ℕ = nodes.word w (nodes.nodeWord (suc (r .slot)) 0) in
-    let n : ℕ = nodes.word w (nodes.nodeWord (suc (r .slot)) 1) in
+    let r = in-held (trieOf w) (nodesOf w) R i in
+    let u : ℕ = word w (slotWord (suc (r .slot)) 0) in
+    let n : ℕ = word w (slotWord (suc (r .slot)) 1) in
     omega (arith, ap length (r .is-prefix), length-take n (bits 32 u), length-bits 32 u)
 
 pub routes-hops : {w : List ℕ} → SoundTable w → (R : Entry) → R ∈ routes w → Hop (R .hop)
 unfolding routes
-routes-hops {w} S R i = let r = in-held (nodes.trieOf w) (nodes.nodesOf w) R i in S .hops (r .slot) (R .hop) (r .is-live) (r .is-hop)
+routes-hops {w} S R i = let r = in-held (trieOf w) (nodesOf w) R i in S .hops (r .slot) (R .hop) (r .is-live) (r .is-hop)
 
 -- ---- the cache
 
-pub held-entries : {w : List ℕ} → SoundEntries w → length (entries w) ≡ slots.entriesHeld w
+pub held-entries : {w : List ℕ} → SoundEntries w → length (entries w) ≡ entriesHeld w
 unfolding entries
 held-entries S = entries-length (S .slots)
 
@@ -43,7 +44,7 @@ pub short-entries : {w : List ℕ} → SoundEntries w → NoLonger 32 (entries w
 unfolding entries
 short-entries {w} S E i = go (entry-slot (S .slots) E i)
   where
-    go : (k : ℕ) × lru.Slot (slots.entriesHeld w) k × (lru.entryOf (slots.cacheOf w) k ≡ E) → length (E .prefix) ≤ 32
+    go : (k : ℕ) × lru.Slot (entriesHeld w) k × (lru.entryOf (cacheOf w) k ≡ E) → length (E .prefix) ≤ 32
     go (k, l, e) = rw (← e) (entry-short w k)
 
 -- ---- the pair

@@ -7,8 +7,7 @@ use Prim.Native.Nat.{ℕ}
 use Rattle.model.specs.Lists.{_∈_}
 use Rattle.model.specs.Model.{Entry, Limits}
 use Rattle.model.specs.Demands.{Covered}
-use Rattle.nodes.specs.Layout as nodes
-use Rattle.slots.specs.Layout as slots
+use Rattle.sizes.specs.BothStores.{limitOf}
 use Rattle.table.specs.Tables.{routes, SoundTable}
 use Rattle.entries.specs.Caches.{entries, SoundEntries}
 
@@ -21,7 +20,7 @@ pub record SoundPair (table cache : List ℕ) : Type 0 where
 
 -- "Both limits are .. fixed at set-up"; an address is 32 bits
 abbrev pub limitsOf : List ℕ → List ℕ → Limits
-limitsOf table cache = record { width = 32; routes = nodes.limitOf table; entries = slots.limitOf cache }
+limitsOf table cache = record { width = 32; routes = limitOf table; entries = limitOf cache }
 
 -- "The check of soundness answers yes or no and writes nothing."
 abbrev pub PairChecked : List ℕ → List ℕ → Bool → Type 0

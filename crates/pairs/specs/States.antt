@@ -2,13 +2,9 @@
 use mathlib.Core.Path.{_≡_}
 use mathlib.Core.List.{List}
 use Prim.Native.Nat.{ℕ}
-use lib.ListN.{drop}
-use Rattle.sizes.specs.Sizes.{cacheNeed, tableNeed}
 use Rattle.tallies.specs.declared.Tallies.{Tallies}
 use Rattle.model.specs.Runs.{State}
 use Rattle.model.specs.Demands.{SameRoutes}
-use Rattle.nodes.specs.Layout as nodes
-use Rattle.slots.specs.Layout as slots
 use Rattle.table.specs.Tables.{routes}
 use Rattle.entries.specs.Caches.{entries}
 
@@ -23,10 +19,3 @@ pub record Reached (table cache : List ℕ) (tallies : Tallies) (s : State) : Ty
   pub are-routes : SameRoutes (routes table) (s .table)
   pub are-entries : entries cache ≡ s .cache
   pub are-tallies : tallies ≡ s .tallies
-
--- the limit, and the words past the need
-abbrev pub TableKept : List ℕ → List ℕ → Type 0
-TableKept w w′ = (nodes.limitOf w′ ≡ nodes.limitOf w) × (drop (tableNeed (nodes.limitOf w)) w′ ≡ drop (tableNeed (nodes.limitOf w)) w)
-
-abbrev pub CacheKept : List ℕ → List ℕ → Type 0
-CacheKept w w′ = (slots.limitOf w′ ≡ slots.limitOf w) × (drop (cacheNeed (slots.limitOf w)) w′ ≡ drop (cacheNeed (slots.limitOf w)) w)

@@ -22,7 +22,8 @@ use Rattle.model.specs.Demands.{uncovered}
 use Rattle.model.proofs.ListLaws.{in-any}
 use Rattle.model.proofs.Match.{match-longest, match-none}
 use Rattle.model.proofs.Updates.{leaving-leaves}
-use Rattle.slots.specs.Layout.{slotWord, word, cacheOf}
+use Rattle.sizes.specs.BothStores.{slotWord, word}
+use Rattle.slots.specs.Layout.{cacheOf}
 use Rattle.table.specs.Tables.{routes}
 use Rattle.search.specs.Matches.{foundFor}
 use Rattle.search.specs.Standings.{Judged, JudgedAt}

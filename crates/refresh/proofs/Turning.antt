@@ -16,7 +16,8 @@ use Rattle.lru.specs.Results.{without}
 use Rattle.lru.proofs.Rings.{without-sub}
 use Rattle.lru.proofs.Orders.{ring-order, order-all, order-distinct}
 use Rattle.lru.proofs.Holding.{keep-others, slot-entry, entry-slot}
-use Rattle.slots.specs.Layout.{slotWord, word, entriesHeld, cacheOf, Shaped}
+use Rattle.sizes.specs.BothStores.{slotWord, word}
+use Rattle.slots.specs.Layout.{entriesHeld, cacheOf, Shaped}
 use Rattle.entries.specs.Caches.{entries, SoundEntries, Slot, entryIn, withHop, rehopped, Kept, Removes, Rehops}
 use Rattle.refresh.specs.declared.Pass.{Pass}
 use Rattle.refresh.specs.Passes.{Within, Stepped, Right, RightAbove, RightApart, Turned, Drops, Keeps, nextPass}

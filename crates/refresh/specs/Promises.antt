@@ -3,6 +3,8 @@ use mathlib.Core.Path.{_≡_}
 use mathlib.Core.List.{List}
 use mathlib.Core.Logic.{_⊎_}
 use Prim.Native.Nat.{ℕ, zero, suc}
+use Rattle.sizes.specs.Sizes.{tableNeed, cacheNeed}
+use Rattle.sizes.specs.BothStores.{Fixed}
 use Rattle.tallies.specs.declared.Tallies.{Tallies}
 use Rattle.model.specs.Model as model
 use Rattle.model.specs.Runs.{Outcome, step, update}
@@ -11,7 +13,7 @@ use Rattle.prefix.specs.Addresses.{ipv4Bits}
 use Rattle.updates.specs.Updates.{actionOf, firstRefusal}
 use Rattle.updates.specs.declared.Update.{Update}
 use Rattle.pairs.specs.Pairs.{SoundPair, limitsOf}
-use Rattle.pairs.specs.States.{stateOf, Reached, TableKept, CacheKept}
+use Rattle.pairs.specs.States.{stateOf, Reached}
 use Rattle.refresh.specs.declared.Updated.{Updated}
 
 -- ---- the answer as the model's
@@ -33,8 +35,8 @@ pub record UpdatedPair (table cache table′ cache′ : List ℕ) (tallies : Tal
   pub answer : updatedOf r ≡ updateStep table cache tallies u .answer
   pub state : Reached table′ cache′ (r .tallies) (updateStep table cache tallies u .state)
   pub sound : SoundPair table′ cache′
-  pub table-kept : TableKept table table′
-  pub cache-kept : CacheKept cache cache′
+  pub table-kept : Fixed tableNeed table table′
+  pub cache-kept : Fixed cacheNeed cache cache′
 
 -- "Every refusal returns its number with all other parts of the answer 0." "from 1 to 8 the stores and tallies keep every word"
 pub record Refused (table cache table′ cache′ : List ℕ) (tallies : Tallies) (r : Updated) : Type 0 where

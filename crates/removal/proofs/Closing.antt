@@ -19,7 +19,8 @@ use Rattle.lru.proofs.Orders.{Order, ring-order, in-slot, order-all, order-dist
 use Rattle.lru.proofs.Shape.{hangs, cell-low}
 use Rattle.lru.proofs.Stores.{only-stores}
 use Rattle.lru.proofs.Removing.{remove-entry, remove-only, only-entry}
-use Rattle.slots.specs.Layout.{upIn, limitOf, entriesHeld, cacheOf, Room, Shaped}
+use Rattle.sizes.specs.BothStores.{limitOf, Room}
+use Rattle.slots.specs.Layout.{upIn, entriesHeld, cacheOf, Shaped}
 use Rattle.slots.specs.Stores.{putChild, putCount}
 use Rattle.slots.proofs.ReadLaws.{read-up}
 use Rattle.slots.proofs.StoreLaws.{cache-child, cache-count}

@@ -12,7 +12,8 @@ use Rattle.prefix.proofs.BitLaws.{digit-below}
 use Rattle.lru.specs.Slots.{Cache, branchNode, cellOf, setEntry, setBranchLength, setChild, setUp}
 use Rattle.lru.specs.Changes.{unlink, moveLinks, prune, moveEntry, moveBranch, fillEntry, fillSlot, removeAt}
 use Rattle.lru.proofs.Stores.{prune-stores, entry-stores, branch-stores}
-use Rattle.slots.specs.Layout.{slotWord, cellWord, word, upIn, cacheOf, Plain}
+use Rattle.sizes.specs.BothStores.{slotWord, word}
+use Rattle.slots.specs.Layout.{cellWord, upIn, cacheOf, Plain}
 use Rattle.slots.specs.Stores.{putEntry, putChild, putUp}
 use Rattle.slots.proofs.ReadLaws.{read-entry, read-hop, read-child, read-branch, read-up}
 use Rattle.slots.proofs.KeptLaws.{kept-then}

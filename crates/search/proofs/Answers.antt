@@ -20,7 +20,8 @@ use Rattle.trie.specs.Walk.{lengthFrom}
 use Rattle.trie.specs.Routes.{routesOf}
 use Rattle.trie.proofs.Holding.{in-held}
 use Rattle.trie.proofs.Looking.{descent-best, descent-match, descent-drop, descent-examined, descent-new}
-use Rattle.nodes.specs.Layout.{nodeWord, word, nodesOf, trieOf, numbered}
+use Rattle.sizes.specs.BothStores.{slotWord, word}
+use Rattle.nodes.specs.Layout.{nodesOf, trieOf, numbered}
 use Rattle.nodes.specs.Headers.{HeaderRead}
 use Rattle.nodes.specs.declared.Shape.{Shape}
 use Rattle.nodes.specs.declared.Shape.the-variants.{Broken}
@@ -38,7 +39,7 @@ use Rattle.search.specs.declared.Found.the-variants.{Match, Nothing}
 
 -- ---- a node as a match
 
-module _ (w : List ℕ) (p mark : ℕ) (pos : 0 < p) (is-mark : mark ≡ word w (nodeWord p 2)) where
+module _ (w : List ℕ) (p mark : ℕ) (pos : 0 < p) (is-mark : mark ≡ word w (slotWord p 2)) where
   pub matched-none : (own : ℕ) → mark ≡ 0 → Nothing ≡ foundAt (trieOf w .hop (p - 1)) own
   unfolding foundAt
   matched-none own z = rw (mark-hop w p mark pos is-mark, z, none-numbered)
@@ -62,7 +63,7 @@ module _ (w : List ℕ) (X : Bits) (n : ℕ) (s : Stop) (h : Stopped w X n s) (S
   unfolding routes
   best-none z = descent-drop (S .trie) (take n X) (best-is ∙ rw z none-numbered)
 
-  pub best-match : ¬ (s .best ≡ 0) → foundAt (trieOf w .hop (s .best - 1)) (word w (nodeWord (s .best) 1)) ≡ foundFor (match (routes w) (take n X))
+  pub best-match : ¬ (s .best ≡ 0) → foundAt (trieOf w .hop (s .best - 1)) (word w (slotWord (s .best) 1)) ≡ foundFor (match (routes w) (take n X))
   unfolding routes foundAt
   best-match some-best =
       let b = best-is ∙ numbered-node (s .best) (omega arith) in
@@ -76,8 +77,8 @@ short-routes : (w : List ℕ) (x : Address) → NoLonger (length (ipv4Bits x)) (
 unfolding trieOf
 short-routes w x R i =
     let r = in-held (trieOf w) (nodesOf w) R i in
-    let u : ℕ = word w (nodeWord (suc (r .slot)) 0) in
-    let n : ℕ = word w (nodeWord (suc (r .slot)) 1) in
+    let u : ℕ = word w (slotWord (suc (r .slot)) 0) in
+    let n : ℕ = word w (slotWord (suc (r .slot)) 1) in
     omega (arith, ap length (r .is-prefix), length-ipv4 x, length-take n (bits 32 u), length-bits 32 u)
 
 module _ (w : List ℕ) (x : Address) (s : Stop) (h : Stopped w (ipv4Bits x) 32 s) where
@@ -100,7 +101,7 @@ module _ (w : List ℕ) (x : Address) (s : Stop) (h : Stopped w (ipv4Bits x) 32 
   }
 
   module _ (some-best : ¬ (s .best ≡ 0)) (f : Found) (n : ℕ) where
-    pub answer-match : f ≡ foundAt (trieOf w .hop (s .best - 1)) (word w (nodeWord (s .best) 1))
+    pub answer-match : f ≡ foundAt (trieOf w .hop (s .best - 1)) (word w (slotWord (s .best) 1))
         → Length w (lengthFrom (trieOf w) (ipv4Bits x) (numbered (s .last)) (numbered (s .beyond))) n
         → Answered w (ipv4Bits x) (record { found = f; examined = s .examined; least = n })
     unfolding routes walk.newFrom

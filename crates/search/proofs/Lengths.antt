@@ -17,7 +17,8 @@ use Rattle.prefix.proofs.Common.{common-sym, common-le}
 use Rattle.prefix.proofs.AddressLaws.{length-address, common-32}
 use Rattle.trie.specs.Trie.{Kid, Trie}
 use Rattle.trie.specs.Walk.{lengthAt, lengthFrom, taken, insideAt}
-use Rattle.nodes.specs.Layout.{nodeWord, word, nodesOf, trieOf, numbered}
+use Rattle.sizes.specs.BothStores.{slotWord, word}
+use Rattle.nodes.specs.Layout.{nodesOf, trieOf, numbered}
 use Rattle.nodes.proofs.Coding.{numbered-node, none-numbered}
 use Rattle.table.proofs.Reading.{own-length, node-bits}
 use Rattle.search.specs.Looks.{lengthBelow, Length}
@@ -46,7 +47,7 @@ length-below v i = go (v .child (Kid i false)) (v .child (Kid i true))
     go none (some r) = refl
     go none none = refl
 
-module _ (w : List ℕ) (p : ℕ) (pos : 0 < p) (in-use : p ≤ nodesOf w) (own : ℕ) (is-own : own ≡ word w (nodeWord p 1)) where
+module _ (w : List ℕ) (p : ℕ) (pos : 0 < p) (in-use : p ≤ nodesOf w) (own : ℕ) (is-own : own ≡ word w (slotWord p 1)) where
   -- no node of a sound table is longer than an address
   pub too-long : (n : ℕ) → 32 < own → Length w n 0
   too-long n l = record { small = omega arith; right = λ S. absurd (omega (arith, S .plain .short p pos in-use)) }
@@ -54,7 +55,7 @@ module _ (w : List ℕ) (p : ℕ) (pos : 0 < p) (in-use : p ≤ nodesOf w) (own 
   module _ (short : own ≤ 32) where
     -- ---- the node after the last
 
-    pub past-is : (x q : Address) (r : ℕ) → take 32 (addressBits q) ≡ bits 32 (word w (nodeWord p 0)) → r ≡ common (addressBits x) (take own (addressBits q))
+    pub past-is : (x q : Address) (r : ℕ) → take 32 (addressBits q) ≡ bits 32 (word w (slotWord p 0)) → r ≡ common (addressBits x) (take own (addressBits q))
         → Length w (suc (common (ipv4Bits x) (trieOf w .prefix (p - 1)))) (1 + r)
     past-is x q r e is = record { small = omega (arith, few x q own r short is); right = λ S. rw common-is (omega arith) }
       where

@@ -17,7 +17,8 @@ use Rattle.prefix.proofs.Tests.{⊑-not, contains-of-take}
 use Rattle.prefix.proofs.AddressLaws.{length-address}
 use Rattle.trie.specs.Trie.{Kid}
 use Rattle.trie.specs.Walk.{taken, insideAt, insideBeyond, insideLast, insideFrom}
-use Rattle.nodes.specs.Layout.{nodeWord, cellWord, word, nodesOf, trieOf, numbered}
+use Rattle.sizes.specs.BothStores.{slotWord, word}
+use Rattle.nodes.specs.Layout.{cellWord, nodesOf, trieOf, numbered}
 use Rattle.nodes.proofs.Coding.{numbered-node, none-numbered, cell-side}
 use Rattle.nodes.proofs.Spelling.{child-word}
 use Rattle.table.specs.Tables.{SoundTable}
@@ -59,7 +60,7 @@ module _ (w : List ℕ) (a : Address) (n : ℕ) (short : n ≤ 32) where
   unfolding insideBeyond
   lies-none p z = record { right = λ S. rw (z, none-numbered) }
 
-  module _ (p : ℕ) (some-p : ¬ (p ≡ 0)) (in-use : p ≤ nodesOf w) (own : ℕ) (is-own : own ≡ word w (nodeWord p 1)) where
+  module _ (p : ℕ) (some-p : ¬ (p ≡ 0)) (in-use : p ≤ nodesOf w) (own : ℕ) (is-own : own ≡ word w (slotWord p 1)) where
     own-short : SoundTable w → own ≤ 32
     own-short S = omega (arith, S .plain .short p (omega arith) in-use)
 
@@ -70,7 +71,7 @@ module _ (w : List ℕ) (a : Address) (n : ℕ) (short : n ≤ 32) where
           (sym (⊑-not (λ h. omega (arith, ⊑-length h, length-sought a n short, own-length w p (omega arith) own is-own (own-short S)))));
     }
 
-    pub lies-covered : n ≤ own → (q : Address) → take 32 (addressBits q) ≡ bits 32 (word w (nodeWord p 0)) → (r : Bool) → r ≡ contains (take n (addressBits a)) (addressBits q)
+    pub lies-covered : n ≤ own → (q : Address) → take 32 (addressBits q) ≡ bits 32 (word w (slotWord p 0)) → (r : Bool) → r ≡ contains (take n (addressBits a)) (addressBits q)
         → Tells w (insideBeyond (trieOf w) P (numbered p)) r
     unfolding insideBeyond
     lies-covered l q e r is = record {
@@ -86,7 +87,7 @@ module _ (w : List ℕ) (a : Address) (n : ℕ) (short : n ≤ 32) (s : Stop) (r
   unfolding insideFrom insideLast
   inside-none z t = rw (z, none-numbered) t
 
-  module _ (some-last : ¬ (s .last ≡ 0)) (in-use : s .last ≤ nodesOf w) (own : ℕ) (is-own : own ≡ word w (nodeWord (s .last) 1)) where
+  module _ (some-last : ¬ (s .last ≡ 0)) (in-use : s .last ≤ nodesOf w) (own : ℕ) (is-own : own ≡ word w (slotWord (s .last) 1)) where
     lengths : SoundTable w → length (trieOf w .prefix (s .last - 1)) ≡ own
     lengths S = own-length w (s .last) (omega arith) own is-own (omega (arith, S .plain .short (s .last) (omega arith) in-use))
 

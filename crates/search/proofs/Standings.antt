@@ -11,7 +11,8 @@ use Rattle.prefix.specs.Prefix.{strictlyInside}
 use Rattle.model.specs.Lists.{any}
 use Rattle.trie.specs.Walk.{insideFrom}
 use Rattle.trie.proofs.RoutesInside.{descent-inside}
-use Rattle.nodes.specs.Layout.{nodeWord, word, trieOf}
+use Rattle.sizes.specs.BothStores.{slotWord, word}
+use Rattle.nodes.specs.Layout.{trieOf}
 use Rattle.nodes.specs.Headers.{HeaderRead}
 use Rattle.nodes.specs.declared.Shape.{Shape}
 use Rattle.nodes.specs.declared.Shape.the-variants.{Broken}
@@ -36,7 +37,7 @@ module _ (w : List ℕ) (X : Bits) (n : ℕ) (s : Stop) (h : Stopped w X n s) (t
   pub standing-none : s .best ≡ 0 → SoundTable w → Judged w (take n X) (record { found = Nothing; inside = t })
   standing-none z S = record { is-match = rw (best-none w X n s h S z); is-inside = inside-is S }
 
-  pub standing-match : ¬ (s .best ≡ 0) → (f : Found) → f ≡ foundAt (trieOf w .hop (s .best - 1)) (word w (nodeWord (s .best) 1)) → SoundTable w
+  pub standing-match : ¬ (s .best ≡ 0) → (f : Found) → f ≡ foundAt (trieOf w .hop (s .best - 1)) (word w (slotWord (s .best) 1)) → SoundTable w
       → Judged w (take n X) (record { found = f; inside = t })
   standing-match some-best f e S = record { is-match = e ∙ best-match w X n s h S some-best; is-inside = inside-is S }
 

@@ -8,7 +8,8 @@ ghost use lib.ListN.{take};
 ghost use Rattle.prefix.specs.Prefix.{common};
 ghost use Rattle.prefix.specs.Addresses.{ipv4Bits};
 ghost use Rattle.trie.specs.Walk.{lengthFrom, insideAt, insideBeyond, insideFrom};
-ghost use Rattle.nodes.specs.Layout.{nodeWord, word, nodesOf, trieOf, numbered, Shaped};
+ghost use Rattle.sizes.specs.BothStores.{slotWord, word};
+ghost use Rattle.nodes.specs.Layout.{nodesOf, trieOf, numbered, Shaped};
 ghost use Rattle.table.specs.Tables.{SoundTable};
 ghost use Rattle.table.specs.Stops.{Stopped, stopOf};
 ghost use Rattle.search.specs.Matches.{Matched};
@@ -69,7 +70,7 @@ fn answer_at(store: &[u32], x: Address, stop: Stop) -> Answer
 fn matched(store: &[u32], p: u32) -> Found
     requires { ⌜ Shaped (now store) ⌝ }
     requires { ⌜ (0 < p) × (p ≤ nodesOf (now store)) ⌝ }
-    ensures { λ r. ⌜ r ≡ foundAt (trieOf (now (store .entry)) .hop (p - 1)) (word (now (store .entry)) (nodeWord p 1)) ⌝ }
+    ensures { λ r. ⌜ r ≡ foundAt (trieOf (now (store .entry)) .hop (p - 1)) (word (now (store .entry)) (slotWord p 1)) ⌝ }
 {
     let mark = nodes::mark_of(store, p);
     if mark == 0 {

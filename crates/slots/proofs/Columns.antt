@@ -16,7 +16,8 @@ use Rattle.prefix.specs.Prefix.{prefixOf}
 use Rattle.trie.specs.Updates.{upd}
 use Rattle.trie.proofs.Stores.{upd-same, upd-other}
 use Rattle.lru.specs.Slots.{Cache}
-use Rattle.slots.specs.Layout.{slotWord, cellWord, word, Room, upIn, cacheOf}
+use Rattle.sizes.specs.BothStores.{slotWord, word, Room}
+use Rattle.slots.specs.Layout.{cellWord, upIn, cacheOf}
 
 -- ---- updates
 

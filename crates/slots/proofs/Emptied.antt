@@ -12,7 +12,8 @@ use Rattle.trie.proofs.Stores.{upd-same}
 use Rattle.sizes.specs.Sizes.{LegalLimit, cacheNeed}
 use Rattle.lru.specs.Slots.{Cache, rootCell, setChild, setPrev, setNext}
 use Rattle.lru.specs.Sound.{Live, trie, childAt, pointer, along, Ring, SoundCache}
-use Rattle.slots.specs.Layout.{limitOf, entriesHeld, Room, Shaped, cacheOf}
+use Rattle.sizes.specs.BothStores.{limitOf, Room}
+use Rattle.slots.specs.Layout.{entriesHeld, Shaped, cacheOf}
 use Rattle.slots.specs.Stores.{putPrev, putNext, putChild, emptied, Kept}
 use Rattle.slots.proofs.KeptLaws.{kept-then, kept-child, kept-prev, kept-next}
 use Rattle.slots.proofs.StoreLaws.{cache-header, cache-prev, cache-next, cache-child}

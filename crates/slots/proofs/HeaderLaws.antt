@@ -1,32 +1,30 @@
 -- What the header's tests tell, and what a header that was read does. Assumes nothing.
-use mathlib.Core.Path.{_≡_, sym, _∙_}
+use mathlib.Core.Path.{_≡_}
 use mathlib.Core.List.{List}
 use Prim.Native.Nat.{ℕ, _≤_}
 use native.Mathlib.Omega.{arith}
 use lib.ListN.{length}
-use Rattle.sizes.specs.Sizes.{LegalLimit, cacheNeed, setupFor}
+use Rattle.sizes.specs.Sizes.{cacheNeed, setupFor}
 use Rattle.sizes.specs.declared.Setup.{Setup}
 use Rattle.sizes.specs.declared.Setup.the-variants.{Done}
-use Rattle.sizes.proofs.SizeLaws.{setup-done, enough-store}
-use Rattle.slots.specs.Layout.{limitOf, entriesHeld, Shaped, Room}
+use Rattle.sizes.proofs.SetUpLaws.{accepted, not-enough}
+use Rattle.sizes.specs.BothStores.{limitOf, Room}
+use Rattle.slots.specs.Layout.{entriesHeld, Shaped}
 use Rattle.slots.specs.Headers.{HeaderRead}
 use Rattle.slots.specs.declared.Header.{Header}
 use Rattle.slots.specs.declared.Shape.{Shape}
 use Rattle.slots.specs.declared.Shape.the-variants.{Fits}
 
 module _ (words limit : ℕ) (r : Setup) (answer : r ≡ setupFor cacheNeed words limit) (done : r ≡ Done) where
-  accepted : LegalLimit limit × (cacheNeed limit ≤ words)
-  accepted = setup-done cacheNeed words limit (sym answer ∙ done)
-
   pub header-word : (i : ℕ) → i ≤ 1024 → i ≤ words
-  header-word i h = omega (arith, accepted)
+  header-word i h = omega (arith, accepted cacheNeed words limit r answer done)
 
 module _ (w : List ℕ) (r : Setup) (answer : r ≡ setupFor cacheNeed (length w) (limitOf w)) where
   pub broken : ¬ (r ≡ Done) → ¬ (Shaped w)
-  broken n s = n (answer ∙ sym (enough-store cacheNeed (length w) (limitOf w) (λ z. omega arith) (s .legal .1) (s .enough)))
+  broken n s = not-enough cacheNeed (length w) (limitOf w) r answer n (s .legal) (s .enough)
 
   pub shaped : r ≡ Done → entriesHeld w ≤ limitOf w → Shaped w
-  shaped d n = let h = accepted (length w) (limitOf w) r answer d in record { legal = h .0; enough = h .1; entries-fit = n }
+  shaped d n = let h = accepted cacheNeed (length w) (limitOf w) r answer d in record { legal = h .0; enough = h .1; entries-fit = n }
 
 -- ---- a header that fits
 

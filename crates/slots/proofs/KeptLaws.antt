@@ -7,7 +7,8 @@ use native.Mathlib.Omega.{arith}
 use lib.ListN.{length, set, drop, length-set}
 use lib.Seq.{getD-set-same, getD-set-other, drop-set-lt}
 use Rattle.sizes.specs.Sizes.{cacheNeed}
-use Rattle.slots.specs.Layout.{slotWord, cellWord, word, limitOf, entriesHeld, packed, Room, Plain}
+use Rattle.sizes.specs.BothStores.{slotWord, word, limitOf, Room}
+use Rattle.slots.specs.Layout.{cellWord, entriesHeld, packed, Plain}
 use Rattle.slots.specs.Stores.{putEntry, putHop, putPrev, putNext, putChild, putBranch, putUp, putCount, Kept}
 use Rattle.slots.proofs.Ups.{put-up-entry, put-up-branch}
 

@@ -8,7 +8,8 @@ use lib.ListN.{length, take, drop, set, length-set, length-drop}
 use lib.Seq.{length-take-le}
 use borrow.Rule.Slice.PartMut.{midOf, putMid, put-same}
 use Rattle.sizes.proofs.PartLaws.{part-set}
-use Rattle.slots.specs.Layout.{Room, packed}
+use Rattle.sizes.specs.BothStores.{Room}
+use Rattle.slots.specs.Layout.{packed}
 use Rattle.slots.specs.Stores.{putEntry}
 
 filled-part : (w part : List ℕ) (a x y : ℕ) → a + 8 ≤ length w → part ≡ set (set (midOf a (a + 8 - a) w) 0 x) 1 y

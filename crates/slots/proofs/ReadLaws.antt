@@ -3,7 +3,8 @@ use mathlib.Core.Path.{_≡_, refl}
 use mathlib.Core.List.{List}
 use Prim.Native.Nat.{ℕ, _/_, _%_}
 use Rattle.prefix.specs.Prefix.{prefixOf}
-use Rattle.slots.specs.Layout.{slotWord, cellWord, word, upIn, cacheOf}
+use Rattle.sizes.specs.BothStores.{slotWord, word}
+use Rattle.slots.specs.Layout.{cellWord, upIn, cacheOf}
 
 module _ (w : List ℕ) (i : ℕ) where
   pub read-entry : prefixOf 32 (word w (slotWord i 0)) (word w (slotWord i 1) % 64) ≡ cacheOf w .entry i

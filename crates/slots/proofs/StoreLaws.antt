@@ -10,7 +10,8 @@ use Rattle.prefix.specs.Prefix.{prefixOf}
 use Rattle.trie.specs.Updates.{upd}
 use Rattle.trie.proofs.Stores.{upd-same, upd-other}
 use Rattle.lru.specs.Slots.{Cache, branchNode, setEntry, setHop, setBranchLength, setChild, setUp, setPrev, setNext}
-use Rattle.slots.specs.Layout.{slotWord, cellWord, packed, Room, cacheOf}
+use Rattle.sizes.specs.BothStores.{slotWord, Room}
+use Rattle.slots.specs.Layout.{cellWord, packed, cacheOf}
 use Rattle.slots.specs.Stores.{putEntry, putHop, putPrev, putNext, putChild, putBranch, putUp, putCount}
 use Rattle.slots.proofs.Columns.{updated, updated-same, updated-by, columns, columns-set, stored, both, both-even, both-odd, cacheBy, by-columns, stores}
 use Rattle.slots.proofs.Ups.{put-up-entry, put-up-branch}

@@ -6,7 +6,8 @@ use mathlib.Core.List.{List}
 use Prim.Native.Nat.{ℕ, zero, suc, _/_, _%_}
 use lib.ListN.{set}
 use Rattle.prefix.specs.Bits.{one?}
-use Rattle.slots.specs.Layout.{slotWord, word, upIn}
+use Rattle.sizes.specs.BothStores.{slotWord, word}
+use Rattle.slots.specs.Layout.{upIn}
 use Rattle.slots.specs.Stores.{putBranch, putUp}
 
 odd : (x : ℕ) → ¬ (x % 2 ≡ 0) → one? (x % 2) ≡ true

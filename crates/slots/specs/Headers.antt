@@ -2,11 +2,8 @@
 use mathlib.Core.Path.{_≡_}
 use mathlib.Core.List.{List}
 use Prim.Native.Nat.{ℕ}
-use lib.ListN.{length}
-use Rattle.sizes.specs.Sizes.{setupFor, cacheNeed}
-use Rattle.sizes.specs.declared.Setup.{Setup}
-use Rattle.sizes.specs.declared.Setup.the-variants.{Done}
-use Rattle.slots.specs.Layout.{limitOf, entriesHeld, Shaped}
+use Rattle.sizes.specs.BothStores.{limitOf}
+use Rattle.slots.specs.Layout.{entriesHeld, Shaped}
 use Rattle.slots.specs.Stores.{emptied}
 use Rattle.slots.specs.declared.Shape.{Shape}
 use Rattle.slots.specs.declared.Shape.the-variants.{Fits, Broken}
@@ -16,7 +13,6 @@ abbrev pub HeaderRead : List ℕ → Shape → Type 0
 HeaderRead w (Fits h) = Shaped w × (h .limit ≡ limitOf w) × (h .entries ≡ entriesHeld w)
 HeaderRead w Broken = ¬ (Shaped w)
 
-pub record SetUp (w w′ : List ℕ) (limit : ℕ) (r : Setup) : Type 0 where
-  pub answer : r ≡ setupFor cacheNeed (length w) limit
-  pub done : r ≡ Done → w′ ≡ emptied w limit
-  pub refused : ¬ (r ≡ Done) → w′ ≡ w
+-- what set-up makes of the store
+abbrev pub Emptied : List ℕ → List ℕ → ℕ → Type 0
+Emptied w w′ limit = w′ ≡ emptied w limit

@@ -5,27 +5,17 @@
 use mathlib.Core.Bool.{cond}
 use mathlib.Core.List.{List}
 use Prim.Native.Nat.{ℕ, _+_, _*_, _/_, _%_, _≤_, _<_}
-use lib.ListN.{length, getD}
+use lib.ListN.{length}
 use Rattle.prefix.specs.Bits.{one?}
 use Rattle.prefix.specs.Prefix.{prefixOf}
 use Rattle.lru.specs.Slots.{Cache}
 use Rattle.sizes.specs.Sizes.{LegalLimit, cacheNeed}
-
--- ---- where a word is
-
-abbrev pub slotWord : ℕ → ℕ → ℕ
-slotWord i field = 1016 + 8 * i + field
+use Rattle.sizes.specs.BothStores.{word, limitOf, slotWord}
 
 abbrev pub cellWord : ℕ → ℕ
 cellWord cell = 1016 + 8 * (cell / 2) + 5 + cell % 2
 
 -- ---- what it says
-
-abbrev pub word : List ℕ → ℕ → ℕ
-word w i = getD w i 0
-
-abbrev pub limitOf : List ℕ → ℕ
-limitOf w = word w 0
 
 abbrev pub entriesHeld : List ℕ → ℕ
 entriesHeld w = word w 1
@@ -54,10 +44,6 @@ pub record Shaped (w : List ℕ) : Type 0 where
   pub legal : LegalLimit (limitOf w)
   pub enough : cacheNeed (limitOf w) ≤ length w
   pub entries-fit : entriesHeld w ≤ limitOf w
-
--- the words of slot i are in the store
-abbrev pub Room : List ℕ → ℕ → Type 0
-Room w i = 1016 + 8 * i + 8 ≤ length w
 
 -- ---- what the slots' values do not show
 

@@ -6,7 +6,8 @@ use Prim.Native.Nat.{ℕ, _/_, _%_}
 use lib.ListN.{length, set, drop}
 use Rattle.prefix.specs.Bits.{one?}
 use Rattle.sizes.specs.Sizes.{cacheNeed}
-use Rattle.slots.specs.Layout.{slotWord, cellWord, word, limitOf, entriesHeld, packed, Plain}
+use Rattle.sizes.specs.BothStores.{slotWord, word, limitOf}
+use Rattle.slots.specs.Layout.{cellWord, entriesHeld, packed, Plain}
 
 unfoldable pub putEntry : List ℕ → ℕ → ℕ → ℕ → ℕ → List ℕ
 putEntry w i address length hop = set (set w (slotWord i 0) address) (slotWord i 1) (packed hop length)

@@ -16,8 +16,10 @@ ghost use Prim.Native.Nat.{_<_, _/_, _%_};
 ghost use lib.ListN.{take, length, set};
 ghost use Rattle.prefix.specs.Bits.{bits};
 ghost use Rattle.prefix.specs.Addresses.{addressBits};
-ghost use Rattle.slots.specs.Layout.{slotWord, cellWord, word, upIn, Room};
-ghost use Rattle.slots.specs.Headers.{HeaderRead, SetUp};
+ghost use Rattle.sizes.specs.Sizes.{cacheNeed};
+ghost use Rattle.sizes.specs.BothStores.{slotWord, word, Room, SetUp};
+ghost use Rattle.slots.specs.Layout.{cellWord, upIn};
+ghost use Rattle.slots.specs.Headers.{HeaderRead, Emptied};
 ghost use Rattle.slots.specs.Stores.{putEntry, putHop, putPrev, putNext, putChild, putBranch, putUp, putCount};
 
 const LIMIT: usize = 0;
@@ -66,7 +68,7 @@ pub fn set_count(store: &mut [u32], entries: u32)
 
 // An empty cache, where the store is large enough for the limit. Nothing of the store is read.
 pub fn set_up_cache(store: &mut [u32], limit: u32) -> Setup
-    ensures { λ r. ⌜ SetUp (now (store .entry)) (now (store .exit)) limit r ⌝ }
+    ensures { λ r. ⌜ SetUp cacheNeed Emptied (now (store .entry)) (now (store .exit)) limit r ⌝ }
 {
     let answer = sizes::cache_setup(store.len(), limit);
     let Setup::Done = answer else {

@@ -16,7 +16,8 @@ use Rattle.trie.specs.Trie.{Kid, Sound, Branchy, Dense}
 use Rattle.trie.specs.Routes.{andRoute, routesOf}
 use Rattle.trie.specs.Check.{CellOk, SlotOk}
 use Rattle.trie.proofs.Checking.{checked-sound}
-use Rattle.nodes.specs.Layout.{nodeWord, word, nodesOf, trieOf, numbered}
+use Rattle.sizes.specs.BothStores.{slotWord, word}
+use Rattle.nodes.specs.Layout.{nodesOf, trieOf, numbered}
 use Rattle.nodes.specs.Stores.{nodeIn}
 use Rattle.nodes.specs.Headers.{HeaderRead}
 use Rattle.nodes.specs.declared.Node.{Node}
@@ -69,11 +70,11 @@ module _ (w : List ℕ) (p nodes : ℕ) (are-nodes : nodes ≡ nodesOf w) (pos :
   here : NodeIs (trieOf w) (p - 1) node
   here = rw is (node-is w p pos)
 
-  length-is : node .length ≡ word w (nodeWord p 1)
+  length-is : node .length ≡ word w (slotWord p 1)
   unfolding nodeIn
   length-is = ap (λ (n : Node). n .length) is
 
-  pub node-up : node .up ≡ word w (nodeWord p 5)
+  pub node-up : node .up ≡ word w (slotWord p 5)
   unfolding nodeIn
   node-up = ap (λ (n : Node). n .up) is
 
@@ -135,7 +136,7 @@ module _ (w : List ℕ) (p nodes : ℕ) (are-nodes : nodes ≡ nodesOf w) (pos :
 
 -- ---- the routes among the nodes that were passed
 
-module _ (w : List ℕ) (p count : ℕ) (before : Passed w p count) (in-use : p ≤ nodesOf w) (now : NodeFine w p) (mark : ℕ) (is-mark : mark ≡ word w (nodeWord p 2)) where
+module _ (w : List ℕ) (p count : ℕ) (before : Passed w p count) (in-use : p ≤ nodesOf w) (now : NodeFine w p) (mark : ℕ) (is-mark : mark ≡ word w (slotWord p 2)) where
   fine : (k : ℕ) → 0 < k → k < p + 1 → NodeFine w k
   fine k a b = elim (ℕ-discrete k p) [ yes e ↦ rw e now | no n ↦ before .fine k a (omega arith) ]
 

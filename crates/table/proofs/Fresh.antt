@@ -7,15 +7,16 @@ use native.Mathlib.Omega.{arith}
 use lib.ListN.{length}
 use Rattle.sizes.specs.Sizes.{LegalLimit, tableNeed}
 use Rattle.sizes.specs.declared.Setup.{Setup}
-use Rattle.sizes.proofs.SizeLaws.{setup-done}
+use Rattle.sizes.specs.BothStores.{SetUp, Fresh}
+use Rattle.sizes.proofs.SetUpLaws.{set-up-makes}
 use Rattle.trie.specs.Trie.{Cell, Root, Kid, Trie, Inside, Points, Sound, Dense}
 use Rattle.trie.specs.Routes.{routesOf}
 use Rattle.nodes.specs.Layout.{trieOf}
 use Rattle.nodes.specs.Stores.{emptied}
-use Rattle.nodes.specs.Headers.{SetUp}
+use Rattle.nodes.specs.Headers.{Emptied}
 use Rattle.nodes.proofs.Keeping.{empty-header, empty-shaped, empty-past}
 use Rattle.nodes.proofs.Spelling.{empty-root}
-use Rattle.table.specs.Tables.{routes, FreshTable, TableSetUp}
+use Rattle.table.specs.Tables.{routes, EmptyTable, TableSetUp}
 
 -- no slot is live, and the root cell is empty
 empty-sound : (m : ℕ) (v : Trie) → m ≡ 0 → v .child Root ≡ none → Sound (Dense m) v
@@ -25,28 +26,26 @@ empty-sound m v z e = record { points = points; owned = λ j l. absurd (omega ar
     points Root j i h = absurd (Option·none-ne-some j (sym e ∙ h))
     points (Kid a b) j i h = absurd (omega arith)
 
-fresh : (w : List ℕ) (limit : ℕ) → LegalLimit limit → tableNeed limit ≤ length w → FreshTable w (emptied w limit) limit
+fresh : (w : List ℕ) (limit : ℕ) → LegalLimit limit → tableNeed limit ≤ length w → Fresh tableNeed EmptyTable w (emptied w limit) limit
 unfolding routes routesOf
 fresh w limit legal enough =
     let h = empty-header w limit (omega arith) in
     let none-held : routes (emptied w limit) ≡ [] = ap (routesOf (trieOf (emptied w limit))) (h .nodes-are) in
     record {
-      sound = record {
-        shaped = empty-shaped w limit legal enough;
-        plain = record { short = λ p a b. absurd (omega arith); celled = λ p a b. absurd (omega arith) };
-        trie = empty-sound _ _ (h .nodes-are) (empty-root w limit (omega arith));
-        branches = λ i l. absurd (omega arith);
-        hops = λ k x l. absurd (omega arith);
-        counted = h .routes-are ∙ sym (ap length none-held);
-      };
-      no-routes = none-held;
+      is-empty = (
+        record {
+          shaped = empty-shaped w limit legal enough;
+          plain = record { short = λ p a b. absurd (omega arith); celled = λ p a b. absurd (omega arith) };
+          trie = empty-sound _ _ (h .nodes-are) (empty-root w limit (omega arith));
+          branches = λ i l. absurd (omega arith);
+          hops = λ k x l. absurd (omega arith);
+          counted = h .routes-are ∙ sym (ap length none-held);
+        },
+        none-held,
+      );
       its-limit = h .limit-is;
       past-kept = empty-past w limit;
     }
 
-pub table-set-up : (w w′ : List ℕ) (limit : ℕ) (r : Setup) → SetUp w w′ limit r → TableSetUp w w′ limit r
-table-set-up w w′ limit r s = record {
-  answer = s .answer;
-  done = λ d. let a = setup-done tableNeed (length w) limit (sym (s .answer) ∙ d) in rw (s .done d) (fresh w limit (a .0) (a .1));
-  refused = s .refused;
-}
+pub table-set-up : (w w′ : List ℕ) (limit : ℕ) (r : Setup) → SetUp tableNeed Emptied w w′ limit r → TableSetUp w w′ limit r
+table-set-up w w′ limit r = set-up-makes tableNeed Emptied (Fresh tableNeed EmptyTable) w w′ limit r (λ legal enough e. rw e (fresh w limit legal enough))

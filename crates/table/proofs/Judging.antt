@@ -20,7 +20,8 @@ use Rattle.prefix.proofs.Tests.{contains-⊑, not-⊑, contains-of-take}
 use Rattle.prefix.proofs.AddressLaws.{length-address}
 use Rattle.trie.specs.Trie.{Kid, Inside, Fits, Points, Owned, Dense}
 use Rattle.trie.proofs.Next.{below-next, next-below}
-use Rattle.nodes.specs.Layout.{nodeWord, cellWord, word, nodesOf, trieOf, numbered, cellOf}
+use Rattle.sizes.specs.BothStores.{slotWord, word}
+use Rattle.nodes.specs.Layout.{cellWord, nodesOf, trieOf, numbered, cellOf}
 use Rattle.nodes.proofs.Coding.{numbered-some, numbered-node, none-numbered, cell-root, cell-side, cell-injective}
 use Rattle.nodes.proofs.Spelling.{up-word, child-word}
 use Rattle.table.specs.Tables.{SoundTable}
@@ -76,7 +77,7 @@ module _ (w : List ℕ) (cell p nodes : ℕ) (are-nodes : nodes ≡ nodesOf w) (
     pub cell-out : nodes < p → Verdict w (CellFine w cell) false
     cell-out l = refuse (λ S. omega (arith, pointed-in S some-p))
 
-    module _ (in-use : p ≤ nodes) (up : ℕ) (is-up : up ≡ word w (nodeWord p 5)) where
+    module _ (in-use : p ≤ nodes) (up : ℕ) (is-up : up ≡ word w (slotWord p 5)) where
       up-is : cellOf up ≡ trieOf w .up (p - 1)
       up-is = ap cellOf is-up ∙ up-word w p (omega arith)
 
@@ -96,7 +97,7 @@ pub goes-root : (w : List ℕ) (cell p : ℕ) → cell ≡ 0 → Verdict w (Goes
 goes-root w cell p z = accept (record { fits = rw (z, cell-root) tt })
 
 module _ (w : List ℕ) (cell p : ℕ) (a-cell : ¬ (cell ≡ 1)) (some-cell : ¬ (cell ≡ 0)) (in-cell : cell / 2 ≤ nodesOf w) (pos : 0 < p) (in-use : p ≤ nodesOf w) (is : p ≡ word w (cellWord cell))
-    (n own : ℕ) (is-n : n ≡ word w (nodeWord (cell / 2) 1)) (is-own : own ≡ word w (nodeWord p 1)) where
+    (n own : ℕ) (is-n : n ≡ word w (slotWord (cell / 2) 1)) (is-own : own ≡ word w (slotWord p 1)) where
   abbrev Onward : Type 0
   Onward = Below (trieOf w .prefix (cell / 2 - 1)) (one? (cell % 2)) (trieOf w .prefix (p - 1))
 
@@ -114,7 +115,7 @@ module _ (w : List ℕ) (cell p : ℕ) (a-cell : ¬ (cell ≡ 1)) (some-cell : �
   pub goes-long : 32 < own → Verdict w (GoesOn w cell p) false
   goes-long l = refuse (λ S. omega (arith, S .plain .short p pos in-use))
 
-  module _ (longer : n < own) (short : own ≤ 32) (a : Address) (is-a : take 32 (addressBits a) ≡ bits 32 (word w (nodeWord p 0))) where
+  module _ (longer : n < own) (short : own ≤ 32) (a : Address) (is-a : take 32 (addressBits a) ≡ bits 32 (word w (slotWord p 0))) where
     length-n : length (trieOf w .prefix (cell / 2 - 1)) ≡ n
     length-n = own-length w (cell / 2) (omega arith) n is-n (omega arith)
 
@@ -128,7 +129,7 @@ module _ (w : List ℕ) (cell p : ℕ) (a-cell : ¬ (cell ≡ 1)) (some-cell : �
       pub goes-aside : ¬ (b ≡ cell % 2) → Verdict w (GoesOn w cell p) false
       goes-aside d = refuse (λ S. d (sym (digit-one b (bit-small (addressBits a) n b is-b)) ∙ ap digit (side ∙ below-next (onward S)) ∙ digit-one (cell % 2) (omega arith)))
 
-      module _ (same-side : b ≡ cell % 2) (q : Address) (is-q : take 32 (addressBits q) ≡ bits 32 (word w (nodeWord (cell / 2) 0)))
+      module _ (same-side : b ≡ cell % 2) (q : Address) (is-q : take 32 (addressBits q) ≡ bits 32 (word w (slotWord (cell / 2) 0)))
           (r : Bool) (is-r : r ≡ contains (take n (addressBits q)) (addressBits a)) where
         inside-is : r ≡ contains (trieOf w .prefix (cell / 2 - 1)) (trieOf w .prefix (p - 1))
         inside-is =
@@ -145,7 +146,7 @@ module _ (w : List ℕ) (cell p : ℕ) (a-cell : ¬ (cell ≡ 1)) (some-cell : �
 
 -- ---- whether the node's own cell points at it
 
-module _ (w : List ℕ) (p cell nodes : ℕ) (are-nodes : nodes ≡ nodesOf w) (pos : 0 < p) (in-use : p ≤ nodes) (is : cell ≡ word w (nodeWord p 5)) where
+module _ (w : List ℕ) (p cell nodes : ℕ) (are-nodes : nodes ≡ nodesOf w) (pos : 0 < p) (in-use : p ≤ nodes) (is : cell ≡ word w (slotWord p 5)) where
   own-cell : cellOf cell ≡ trieOf w .up (p - 1)
   own-cell = ap cellOf is ∙ up-word w p pos
 

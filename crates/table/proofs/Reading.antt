@@ -18,7 +18,8 @@ use Rattle.prefix.proofs.AddressLaws.{length-address, take-32, prefix-32, lengt
 use Rattle.trie.specs.Trie.{Cell, Kid}
 use Rattle.trie.specs.Walk.{follow, better}
 use Rattle.trie.proofs.Walking.{follow-bit, follow-none, long-out}
-use Rattle.nodes.specs.Layout.{nodeWord, cellWord, word, trieOf, numbered}
+use Rattle.sizes.specs.BothStores.{slotWord, word}
+use Rattle.nodes.specs.Layout.{cellWord, trieOf, numbered}
 use Rattle.nodes.proofs.Coding.{none-numbered, numbered-node, cell-side}
 use Rattle.nodes.proofs.Spelling.{prefix-words, hop-word, child-word}
 use Rattle.table.specs.Turns.{Tested, Chosen}
@@ -33,9 +34,9 @@ length-sought a n h = length-take-le n (ipv4Bits a) (omega (arith, length-ipv4 a
 length-short : (u own : ℕ) → own ≤ 32 → length (prefixOf 32 u own) ≡ own
 length-short u own h = length-take-le own (bits 32 u) (omega (arith, length-bits 32 u))
 
-module _ (w : List ℕ) (p : ℕ) (pos : 0 < p) (own : ℕ) (is-own : own ≡ word w (nodeWord p 1)) where
-  own-prefix : prefixOf 32 (word w (nodeWord p 0)) own ≡ trieOf w .prefix (p - 1)
-  own-prefix = ap (prefixOf 32 (word w (nodeWord p 0))) is-own ∙ prefix-words w p pos
+module _ (w : List ℕ) (p : ℕ) (pos : 0 < p) (own : ℕ) (is-own : own ≡ word w (slotWord p 1)) where
+  own-prefix : prefixOf 32 (word w (slotWord p 0)) own ≡ trieOf w .prefix (p - 1)
+  own-prefix = ap (prefixOf 32 (word w (slotWord p 0))) is-own ∙ prefix-words w p pos
 
   pub own-length : own ≤ 32 → length (trieOf w .prefix (p - 1)) ≡ own
   own-length h = sym (ap length own-prefix) ∙ length-short _ own h
@@ -45,10 +46,10 @@ module _ (w : List ℕ) (p : ℕ) (pos : 0 < p) (own : ℕ) (is-own : own ≡ wo
   holds-not a n hn l = record { answer = λ h. sym (long-out (trieOf w) (take n (ipv4Bits a)) (p - 1) (omega (arith, length-sought a n hn, own-length (omega arith)))) }
 
   -- the node's prefix is the same list of the 128 bits of its address
-  pub node-bits : (q : Address) → take 32 (addressBits q) ≡ bits 32 (word w (nodeWord p 0)) → own ≤ 32 → take own (addressBits q) ≡ trieOf w .prefix (p - 1)
+  pub node-bits : (q : Address) → take 32 (addressBits q) ≡ bits 32 (word w (slotWord p 0)) → own ≤ 32 → take own (addressBits q) ≡ trieOf w .prefix (p - 1)
   node-bits q e h = take-32 own _ _ q q h e e ∙ own-prefix
 
-  pub holds-is : (a q : Address) (n : ℕ) (r : Bool) → own ≤ n → take 32 (addressBits q) ≡ bits 32 (word w (nodeWord p 0))
+  pub holds-is : (a q : Address) (n : ℕ) (r : Bool) → own ≤ n → take 32 (addressBits q) ≡ bits 32 (word w (slotWord p 0))
       → r ≡ contains (take own (addressBits q)) (addressBits a) → Tested w (ipv4Bits a) n p r
   holds-is a q n r l e is = record {
     answer = λ z. let h : own ≤ 32 = omega arith in
@@ -65,7 +66,7 @@ module _ (w : List ℕ) (p : ℕ) (pos : 0 < p) (own : ℕ) (is-own : own ≡ wo
       reaches : n ≤ length (trieOf w .prefix (p - 1))
       reaches = elim (decLe own 32) [
         | yes h ↦ omega (arith, own-length h)
-        | no h ↦ rw (← own-prefix) (rw (take-all own (bits 32 (word w (nodeWord p 0))) (omega (arith, length-bits 32 (word w (nodeWord p 0))))) (omega (arith, length-bits 32 (word w (nodeWord p 0)))))
+        | no h ↦ rw (← own-prefix) (rw (take-all own (bits 32 (word w (slotWord p 0))) (omega (arith, length-bits 32 (word w (slotWord p 0))))) (omega (arith, length-bits 32 (word w (slotWord p 0)))))
       ]
 
   pub below-bit : (a : Address) (n b r : ℕ) → n ≤ 32 → own < n → b ≡ digit (getD (addressBits a) own false) → r ≡ word w (cellWord (2 * p + b))
@@ -81,7 +82,7 @@ module _ (w : List ℕ) (p : ℕ) (pos : 0 < p) (own : ℕ) (is-own : own ≡ wo
 
 -- ---- whether it is a route
 
-module _ (w : List ℕ) (p mark : ℕ) (pos : 0 < p) (is-mark : mark ≡ word w (nodeWord p 2)) where
+module _ (w : List ℕ) (p mark : ℕ) (pos : 0 < p) (is-mark : mark ≡ word w (slotWord p 2)) where
   pub mark-hop : trieOf w .hop (p - 1) ≡ numbered mark
   mark-hop = sym (ap numbered is-mark ∙ hop-word w p pos)
 

@@ -5,7 +5,8 @@ use Prim.Native.Nat.{ℕ, _+_, _≤_}
 use native.Mathlib.Omega.{arith}
 use mir.Syntax.{w32}
 use mir.Val as val
-use Rattle.nodes.specs.Layout.{limitOf, nodesOf, routeCount, Shaped}
+use Rattle.sizes.specs.BothStores.{limitOf}
+use Rattle.nodes.specs.Layout.{nodesOf, routeCount, Shaped}
 use Rattle.nodes.specs.Headers.{HeaderRead}
 use Rattle.nodes.specs.declared.Header.{Header}
 use Rattle.nodes.specs.declared.Shape.{Shape}

@@ -14,7 +14,8 @@ use Rattle.prefix.specs.declared.Address.{Address}
 use Rattle.trie.specs.Trie.{Dense}
 use Rattle.trie.specs.Walk.{Walking, follow}
 use Rattle.trie.proofs.Walking.{walking-start, walking-off, walking-parted, walking-on}
-use Rattle.nodes.specs.Layout.{word, cellWord, nodesOf, trieOf, numbered}
+use Rattle.sizes.specs.BothStores.{word}
+use Rattle.nodes.specs.Layout.{cellWord, nodesOf, trieOf, numbered}
 use Rattle.nodes.proofs.Coding.{numbered-some, numbered-node, none-numbered, cell-root}
 use Rattle.nodes.proofs.Spelling.{child-word}
 use Rattle.table.specs.Tables.{SoundTable}

@@ -9,7 +9,8 @@ use Rattle.model.specs.Demands.{Hop}
 use Rattle.trie.specs.Trie.{Fits, Owned, Dense}
 use Rattle.trie.specs.Routes.{routesOf}
 use Rattle.trie.specs.Check.{CellOk, SlotOk}
-use Rattle.nodes.specs.Layout.{nodeWord, word, nodesOf, trieOf, cellOf}
+use Rattle.sizes.specs.BothStores.{slotWord, word}
+use Rattle.nodes.specs.Layout.{nodesOf, trieOf, cellOf}
 use Rattle.nodes.specs.declared.Node.{Node}
 use Rattle.table.specs.Tables.{SoundTable}
 
@@ -31,7 +32,7 @@ pub record CellFine (w : List ℕ) (cell : ℕ) : Type 0 where
 
 -- the node's up is a cell that there is, and points at the node
 pub record HasCell (w : List ℕ) (p : ℕ) : Type 0 where
-  pub celled : ¬ (word w (nodeWord p 5) ≡ 1)
+  pub celled : ¬ (word w (slotWord p 5) ≡ 1)
   pub owned : Owned (Dense (nodesOf w)) (trieOf w) (p - 1)
 
 -- a branch has two nodes below it, and a hop is 1 to 65,535
@@ -40,8 +41,8 @@ pub record Marked (node : Node) : Type 0 where
   pub route : 0 < node .mark → (2 ≤ node .mark) × (node .mark ≤ 65536)
 
 pub record NodeFine (w : List ℕ) (p : ℕ) : Type 0 where
-  pub short : word w (nodeWord p 1) ≤ 32
-  pub celled : ¬ (word w (nodeWord p 5) ≡ 1)
+  pub short : word w (slotWord p 1) ≤ 32
+  pub celled : ¬ (word w (slotWord p 5) ≡ 1)
   pub slot : SlotOk (nodesOf w) (trieOf w) (p - 1)
   pub hop : (h : ℕ) → trieOf w .hop (p - 1) ≡ some h → Hop h
 

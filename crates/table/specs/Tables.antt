@@ -5,15 +5,15 @@ use mathlib.Core.Logic.{_↔_}
 use mathlib.Core.List.{List, []}
 use mathlib.Core.Option.{some}
 use Prim.Native.Nat.{ℕ, _<_}
-use lib.ListN.{length, drop}
-use Rattle.sizes.specs.Sizes.{tableNeed, setupFor}
+use lib.ListN.{length}
+use Rattle.sizes.specs.Sizes.{tableNeed}
+use Rattle.sizes.specs.BothStores.{SetUp, Fresh}
 use Rattle.sizes.specs.declared.Setup.{Setup}
-use Rattle.sizes.specs.declared.Setup.the-variants.{Done}
 use Rattle.model.specs.Routes.{Table}
 use Rattle.model.specs.Demands.{Hop}
 use Rattle.trie.specs.Trie.{Sound, Branchy, Dense}
 use Rattle.trie.specs.Routes.{routesOf}
-use Rattle.nodes.specs.Layout.{limitOf, nodesOf, routeCount, trieOf, Shaped, Plain}
+use Rattle.nodes.specs.Layout.{nodesOf, routeCount, trieOf, Shaped, Plain}
 
 -- the routes of a store, node by node
 unfoldable pub routes : List ℕ → Table
@@ -35,16 +35,11 @@ pub record SoundTable (w : List ℕ) : Type 0 where
 
 -- ---- what set-up promises: "Set-up checks 8, then 7." "Set-up never reads old contents", and never changes words past the need
 
-pub record FreshTable (w w′ : List ℕ) (limit : ℕ) : Type 0 where
-  pub sound : SoundTable w′
-  pub no-routes : routes w′ ≡ []
-  pub its-limit : limitOf w′ ≡ limit
-  pub past-kept : drop (tableNeed limit) w′ ≡ drop (tableNeed limit) w
+abbrev pub EmptyTable : List ℕ → Type 0
+EmptyTable w = SoundTable w × (routes w ≡ [])
 
-pub record TableSetUp (w w′ : List ℕ) (limit : ℕ) (r : Setup) : Type 0 where
-  pub answer : r ≡ setupFor tableNeed (length w) limit
-  pub done : r ≡ Done → FreshTable w w′ limit
-  pub refused : ¬ (r ≡ Done) → w′ ≡ w
+abbrev pub TableSetUp : List ℕ → List ℕ → ℕ → Setup → Type 0
+TableSetUp = SetUp tableNeed (Fresh tableNeed EmptyTable)
 
 -- ---- what the check promises: "answers yes or no and writes nothing"
 

@@ -8,7 +8,8 @@ use Rattle.prefix.specs.Bits.{Bits}
 use Rattle.prefix.specs.Prefix.{contains}
 use Rattle.trie.specs.Trie.{Dense}
 use Rattle.trie.specs.Walk.{Walking, better}
-use Rattle.nodes.specs.Layout.{nodeWord, word, nodesOf, trieOf, numbered}
+use Rattle.sizes.specs.BothStores.{slotWord, word}
+use Rattle.nodes.specs.Layout.{nodesOf, trieOf, numbered}
 use Rattle.table.specs.Tables.{SoundTable}
 use Rattle.table.specs.Stops.{Stopped}
 use Rattle.table.specs.declared.Stop.{Stop}
@@ -25,7 +26,7 @@ pub record Going (w : List ℕ) (X : Bits) (n : ℕ) (k : Walk) : Type 0 where
 
 -- whether node p contains the first n bits of X: on a store with a length above 32 the answer is open
 pub record Tested (w : List ℕ) (X : Bits) (n p : ℕ) (r : Bool) : Type 0 where
-  pub answer : word w (nodeWord p 1) ≤ 32 → r ≡ contains (trieOf w .prefix (p - 1)) (take n X)
+  pub answer : word w (slotWord p 1) ≤ 32 → r ≡ contains (trieOf w .prefix (p - 1)) (take n X)
 
 -- node p where it is a route, else the best before it
 pub record Chosen (w : List ℕ) (p best r : ℕ) : Type 0 where

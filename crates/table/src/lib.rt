@@ -15,7 +15,8 @@ ghost use Prim.Native.Nat.{_+_, _-_, _/_, _≤_, _<_};
 ghost use lib.ListN.{take};
 ghost use Rattle.prefix.specs.Addresses.{ipv4Bits};
 ghost use Rattle.trie.specs.Walk.{follow};
-ghost use Rattle.nodes.specs.Layout.{nodeWord, cellWord, word, nodesOf, trieOf, numbered, Shaped};
+ghost use Rattle.sizes.specs.BothStores.{slotWord, word};
+ghost use Rattle.nodes.specs.Layout.{cellWord, nodesOf, trieOf, numbered, Shaped};
 ghost use Rattle.table.specs.Tables.{TableSetUp, TableChecked};
 ghost use Rattle.table.specs.Stops.{Stopped};
 ghost use Rattle.table.specs.Turns.{Going, Turned, offOf, Tested, Chosen};
@@ -101,7 +102,7 @@ fn off(w: Walk) -> Stop
 fn holds(store: &[u32], p: u32, own: u32, a: Address, n: u32) -> bool
     requires { ⌜ Shaped (now store) ⌝ }
     requires { ⌜ (0 < p) × (p ≤ nodesOf (now store)) × (n ≤ 32) ⌝ }
-    requires { ⌜ own ≡ word (now store) (nodeWord p 1) ⌝ }
+    requires { ⌜ own ≡ word (now store) (slotWord p 1) ⌝ }
     ensures { λ r. ⌜ Tested (now (store .entry)) (ipv4Bits a) n p r ⌝ }
 {
     if n < own {
@@ -114,7 +115,7 @@ fn holds(store: &[u32], p: u32, own: u32, a: Address, n: u32) -> bool
 fn below(store: &[u32], p: u32, own: u32, a: Address, n: u32) -> u32
     requires { ⌜ Shaped (now store) ⌝ }
     requires { ⌜ (0 < p) × (p ≤ nodesOf (now store)) × (n ≤ 32) ⌝ }
-    requires { ⌜ own ≡ word (now store) (nodeWord p 1) ⌝ }
+    requires { ⌜ own ≡ word (now store) (slotWord p 1) ⌝ }
     ensures { λ r. ⌜ numbered r ≡ follow (trieOf (now (store .entry))) (take n (ipv4Bits a)) (p - 1) ⌝ }
 {
     if own < n {
@@ -243,7 +244,7 @@ fn mark_ok(node: Node) -> bool
 fn owned(store: &[u32], nodes: u32, p: u32, cell: u32) -> bool
     requires { ⌜ Shaped (now store) ⌝ }
     requires { ⌜ (nodes ≡ nodesOf (now store)) × (0 < p) × (p ≤ nodes) ⌝ }
-    requires { ⌜ cell ≡ word (now store) (nodeWord p 5) ⌝ }
+    requires { ⌜ cell ≡ word (now store) (slotWord p 5) ⌝ }
     ensures { λ r. ⌜ Verdict (now (store .entry)) (HasCell (now (store .entry)) p) r ⌝ }
 {
     if cell == 1 {

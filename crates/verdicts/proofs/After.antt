@@ -14,7 +14,8 @@ use Rattle.trie.specs.Trie.{Trie, Sound, Branchy, Dense, Held, Put, Removed}
 use Rattle.trie.specs.Routes.{routesOf}
 use Rattle.trie.proofs.Holding.{put-updated, removed-updated, put-length-held, put-length-new, removed-length}
 use Rattle.trie.proofs.Counting.{slots-fit}
-use Rattle.nodes.specs.Layout.{limitOf, nodesOf, routeCount, trieOf}
+use Rattle.sizes.specs.BothStores.{limitOf}
+use Rattle.nodes.specs.Layout.{nodesOf, routeCount, trieOf}
 use Rattle.nodes.specs.Stores.{putCounts}
 use Rattle.nodes.proofs.Keeping.{HeaderIs, counts-header, counts-past}
 use Rattle.nodes.proofs.Plainness.{plain-fewer, plain-counts}

@@ -5,7 +5,8 @@ use Prim.Native.Nat.{ℕ, _+_, _*_, _≤_}
 use native.Mathlib.Omega.{arith}
 use lib.ListN.{length, drop}
 use Rattle.sizes.specs.Sizes.{tableNeed}
-use Rattle.nodes.specs.Layout.{limitOf, nodesOf, Room, Plain}
+use Rattle.sizes.specs.BothStores.{limitOf, Room}
+use Rattle.nodes.specs.Layout.{nodesOf, Plain}
 use Rattle.nodes.specs.Stores.{putMark, putUp, putChild, putNode}
 use Rattle.nodes.specs.declared.Node.{Node}
 use Rattle.nodes.proofs.Keeping.{SameHeader, header-is, mark-header, up-header, child-header, node-header, mark-past, up-past, child-past, node-past}

@@ -9,7 +9,8 @@ use lib.ListN.{length, set}
 use lib.Seq.{getD-set-same, getD-set-other, set-out}
 use Rattle.prefix.specs.Bits.{one?}
 use Rattle.trie.specs.Trie.{Inside, Dense}
-use Rattle.nodes.specs.Layout.{nodeWord, cellWord, word, nodesOf, cellOf, Room}
+use Rattle.sizes.specs.BothStores.{slotWord, word, Room}
+use Rattle.nodes.specs.Layout.{cellWord, nodesOf, cellOf}
 use Rattle.nodes.specs.Stores.{putMark, putUp, putChild, filledAt, putNode, nodeIn}
 use Rattle.nodes.specs.declared.Node.{Node}
 use Rattle.nodes.proofs.Coding.{numbered-node}
@@ -42,13 +43,13 @@ other-side (suc (suc b)) l = absurd (omega arith)
 
 -- in the nodes 1 to k they are of the cells and the nodes 1 to m
 pub record Linked (w : List ℕ) (k m : ℕ) : Type 0 where
-  pub up-in : (p : ℕ) → 0 < p → p ≤ k → CellIn m (word w (nodeWord p 5))
+  pub up-in : (p : ℕ) → 0 < p → p ≤ k → CellIn m (word w (slotWord p 5))
   pub child-in : (q : ℕ) → CellIn k q → word w (cellWord q) ≤ m
 
 pub sound-linked : (w : List ℕ) → SoundTable w → Linked w (nodesOf w) (nodesOf w)
 sound-linked w s = record { up-in = up-in; child-in = λ q i. child-in q i (decLt 0 (word w (cellWord q))) }
   where
-    up-in : (p : ℕ) → 0 < p → p ≤ nodesOf w → CellIn (nodesOf w) (word w (nodeWord p 5))
+    up-in : (p : ℕ) → 0 < p → p ≤ nodesOf w → CellIn (nodesOf w) (word w (slotWord p 5))
     up-in p a b = (s .plain .celled p a b, inside-cell _ _ (rw (up-word w p a) (s .trie .owned (p - 1) (omega arith) .inside)))
 
     child-in : (q : ℕ) → CellIn (nodesOf w) q → Dec (0 < word w (cellWord q)) → word w (cellWord q) ≤ nodesOf w
@@ -65,9 +66,9 @@ stored-or-kept P w i v j new old = go (ℕ-discrete j i) (decLt i (length w))
     go (yes e) (yes l) = rw (e, getD-set-same w i v 0 l) (new e)
     go (yes e) (no n) = rw (set-out w i v (omega arith)) old
 
-linked-set : {w : List ℕ} {k m : ℕ} (i v : ℕ) → ((p : ℕ) → nodeWord p 5 ≡ i → CellIn m v) → ((q : ℕ) → cellWord q ≡ i → v ≤ m) → Linked w k m → Linked (set w i v) k m
+linked-set : {w : List ℕ} {k m : ℕ} (i v : ℕ) → ((p : ℕ) → slotWord p 5 ≡ i → CellIn m v) → ((q : ℕ) → cellWord q ≡ i → v ≤ m) → Linked w k m → Linked (set w i v) k m
 linked-set {w} {k} {m} i v u c h = record {
-  up-in = λ p a b. stored-or-kept (CellIn m) w i v (nodeWord p 5) (u p) (h .up-in p a b);
+  up-in = λ p a b. stored-or-kept (CellIn m) w i v (slotWord p 5) (u p) (h .up-in p a b);
   child-in = λ q a. stored-or-kept (λ x. x ≤ m) w i v (cellWord q) (c q) (h .child-in q a);
 }
 
@@ -111,7 +112,7 @@ linked-next {w} {m} {n} g room h = record { up-in = λ p a b. up-in p a b (decLe
     old : Linked (putNode w (m + 1) n) m (m + 1)
     old = linked-node (m + 1) g (record { up-in = λ p a b. (h .up-in p a b .0, omega (arith, h .up-in p a b .1)); child-in = λ q i. omega (arith, h .child-in q i) })
 
-    up-in : (p : ℕ) → 0 < p → p ≤ m + 1 → Dec (p ≤ m) → CellIn (m + 1) (word (putNode w (m + 1) n) (nodeWord p 5))
+    up-in : (p : ℕ) → 0 < p → p ≤ m + 1 → Dec (p ≤ m) → CellIn (m + 1) (word (putNode w (m + 1) n) (slotWord p 5))
     up-in p a b (yes l) = old .up-in p a l
     up-in p a b (no ne) = let z : p ≡ m + 1 = omega arith in rw (z, ap (λ (x : Node). x .up) back) (g .up)
 
@@ -120,5 +121,5 @@ linked-next {w} {m} {n} g room h = record { up-in = λ p a b. up-in p a b (decLe
     child-in q i (no ne) = side (decLe (q % 2) 0)
       where
         side : Dec (q % 2 ≤ 0) → word (putNode w (m + 1) n) (cellWord q) ≤ m + 1
-        side (yes z) = let e : cellWord q ≡ nodeWord (m + 1) 3 = omega (arith, i .1) in rw (e, ap (λ (x : Node). x .left) back) (g .left)
-        side (no z) = let e : cellWord q ≡ nodeWord (m + 1) 4 = omega (arith, i .1) in rw (e, ap (λ (x : Node). x .right) back) (g .right)
+        side (yes z) = let e : cellWord q ≡ slotWord (m + 1) 3 = omega (arith, i .1) in rw (e, ap (λ (x : Node). x .left) back) (g .left)
+        side (no z) = let e : cellWord q ≡ slotWord (m + 1) 4 = omega (arith, i .1) in rw (e, ap (λ (x : Node). x .right) back) (g .right)

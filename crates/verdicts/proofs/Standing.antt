@@ -7,7 +7,8 @@ use native.Mathlib.Omega.{arith}
 use Rattle.model.specs.Routes.{held}
 use Rattle.trie.specs.Trie.{Dense, Held}
 use Rattle.trie.proofs.Holding.{is-held, branch-not-held}
-use Rattle.nodes.specs.Layout.{nodeWord, word, nodesOf, trieOf}
+use Rattle.sizes.specs.BothStores.{slotWord, word}
+use Rattle.nodes.specs.Layout.{nodesOf, trieOf}
 use Rattle.nodes.specs.declared.Header.{Header}
 use Rattle.nodes.proofs.Coding.{numbered-node, none-numbered}
 use Rattle.nodes.proofs.Spelling.{hop-word}
@@ -21,7 +22,7 @@ module _ (w : List ℕ) (h : Header) (p : ℕ) (at : NodeAt w h p) where
   pub at-live : p - 1 < nodesOf w
   at-live = omega (arith, at-within, at .some-node)
 
-  module _ (mark : ℕ) (is-mark : mark ≡ word w (nodeWord p 2)) where
+  module _ (mark : ℕ) (is-mark : mark ≡ word w (slotWord p 2)) where
     pub branch-new : SoundTable w → mark ≡ 0 → held (routes w) (trieOf w .prefix (p - 1)) ≡ false
     unfolding routes
     branch-new s z = branch-not-held (s .trie) _ (p - 1) at-live refl (sym (hop-word w p (at .some-node)) ∙ rw (← is-mark, z) none-numbered)

@@ -13,7 +13,8 @@ use Rattle.trie.specs.Trie.{Dense}
 use Rattle.trie.specs.Walk as walk
 use Rattle.trie.proofs.Walking.{at-last, Landed, landed-root, landed-below}
 use Rattle.trie.proofs.Holding.{landed-not-held}
-use Rattle.nodes.specs.Layout.{nodeWord, word, nodesOf, numbered, trieOf, Shaped, Room}
+use Rattle.sizes.specs.BothStores.{slotWord, word, Room}
+use Rattle.nodes.specs.Layout.{nodesOf, numbered, trieOf, Shaped}
 use Rattle.nodes.specs.Headers.{HeaderRead}
 use Rattle.nodes.specs.declared.Header.{Header}
 use Rattle.nodes.specs.declared.Shape.{Shape}
@@ -64,7 +65,7 @@ module _ (w : List ℕ) (a : Address) (n : ℕ) (short : n ≤ 32) (stop : Stop)
   pub landed-first : stop .last ≡ 0 → Landed (Dense (nodesOf w)) (trieOf w) (take n (ipv4Bits a)) (walk.descent (trieOf w) (take n (ipv4Bits a)))
   landed-first z = landed-root (s .trie) _ (stop-last ∙ rw z none-numbered)
 
-  module _ (some-last : ¬ (stop .last ≡ 0)) (own : ℕ) (is-own : own ≡ word w (nodeWord (stop .last) 1)) where
+  module _ (some-last : ¬ (stop .last ≡ 0)) (own : ℕ) (is-own : own ≡ word w (slotWord (stop .last) 1)) where
     pub last-node : walk.descent (trieOf w) (take n (ipv4Bits a)) .last ≡ some (stop .last - 1)
     last-node = stop-last ∙ numbered-node (stop .last) (omega arith)
 
@@ -84,7 +85,7 @@ module _ (w : List ℕ) (a : Address) (n : ℕ) (short : n ≤ 32) (stop : Stop)
   landed-new d = landed-not-held (s .trie) _ d
 
 module _ (w : List ℕ) (a : Address) (n : ℕ) (short : n ≤ 32) (stop : Stop) (at : Stopped w (ipv4Bits a) n stop) where
-  module _ (some-last : ¬ (stop .last ≡ 0)) (own : ℕ) (is-own : own ≡ word w (nodeWord (stop .last) 1)) where
+  module _ (some-last : ¬ (stop .last ≡ 0)) (own : ℕ) (is-own : own ≡ word w (slotWord (stop .last) 1)) where
     -- what is answered for the prefix of the last node
     pub last-own : own ≡ n → (w′ : List ℕ) (x : Action) (r : Verdict) → Answered w w′ 0 (record { prefix = trieOf w .prefix (stop .last - 1); action = x }) r
         → Answered w w′ n (record { prefix = take n (ipv4Bits a); action = x }) r

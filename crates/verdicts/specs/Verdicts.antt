@@ -7,7 +7,7 @@ use Rattle.sizes.specs.Sizes.{tableNeed}
 use Rattle.model.specs.Routes as model
 use Rattle.model.specs.Model.{Limits, refusal}
 use Rattle.model.specs.Demands.{SameRoutes}
-use Rattle.nodes.specs.Layout.{limitOf}
+use Rattle.sizes.specs.BothStores.{limitOf}
 use Rattle.nodes.specs.Headers.{HeaderRead}
 use Rattle.nodes.specs.declared.Header.{Header}
 use Rattle.nodes.specs.declared.Shape.the-variants.{Fits}

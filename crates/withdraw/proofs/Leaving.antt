@@ -13,7 +13,8 @@ use Rattle.trie.specs.Trie.{Kid}
 use Rattle.trie.specs.Updates.{setChild, setSlot, setUpOf, cutAt, moveAt, fillAt, fillBoth}
 use Rattle.trie.proofs.Stores.{set-up-of-none, set-up-of-some}
 use Rattle.trie.proofs.Withdrawing.{fill-last, fill-move, fill-both, fill-both-flip}
-use Rattle.nodes.specs.Layout.{nodeWord, cellWord, word, limitOf, numbered, cellOf, trieOf}
+use Rattle.sizes.specs.BothStores.{slotWord, word, limitOf}
+use Rattle.nodes.specs.Layout.{cellWord, numbered, cellOf, trieOf}
 use Rattle.nodes.specs.Stores.{putNode, nodeIn}
 use Rattle.nodes.specs.declared.Node.{Node}
 use Rattle.nodes.proofs.Coding.{numbered-node, none-numbered, cell-side}
@@ -49,7 +50,7 @@ module _ (w : List ℕ) (m : ℕ) (enough : tableNeed (limitOf w) ≤ length w) 
 
   module _ {u : List ℕ} (k : Kept w m u) (p kid : ℕ) (pos : 0 < p) (l : p ≤ m) (kl : kid ≤ m) where
     up : ℕ
-    up = word u (nodeWord p 5)
+    up = word u (slotWord p 5)
 
     up-in : CellIn m up
     unfolding up
@@ -96,8 +97,8 @@ module _ (w : List ℕ) (m : ℕ) (enough : tableNeed (limitOf w) ≤ length w) 
     good : GoodNode m (nodeIn u s)
     unfolding nodeIn
     good =
-        let e : cellWord (2 * s) ≡ nodeWord s 3 = omega arith in
-        let f : cellWord (2 * s + 1) ≡ nodeWord s 4 = omega arith in
+        let e : cellWord (2 * s) ≡ slotWord s 3 = omega arith in
+        let f : cellWord (2 * s + 1) ≡ slotWord s 4 = omega arith in
         record {
           len = k .plain .short s spos sl;
           up = k .linked .up-in s spos sl;

@@ -11,7 +11,8 @@ use Rattle.prefix.proofs.Order.{below-<}
 use Rattle.trie.specs.Trie.{Kid, Dense, Held, Removed}
 use Rattle.trie.specs.Updates.{unhopAt, cutAt, fillAt}
 use Rattle.trie.proofs.Withdrawing.{withdraw-hop, withdraw-one, withdraw-root, withdraw-leaf, withdraw-pair}
-use Rattle.nodes.specs.Layout.{nodeWord, cellWord, word, nodesOf, routeCount, numbered, cellOf, trieOf}
+use Rattle.sizes.specs.BothStores.{slotWord, word}
+use Rattle.nodes.specs.Layout.{cellWord, nodesOf, routeCount, numbered, cellOf, trieOf}
 use Rattle.nodes.specs.Stores.{putMark, putCounts}
 use Rattle.nodes.specs.declared.Header.{Header}
 use Rattle.nodes.proofs.Coding.{numbered-node, none-numbered, cell-root, cell-side}
@@ -35,7 +36,7 @@ module _ (w w′ : List ℕ) (h : Header) (p : ℕ) (at : RouteAt w h p) where
   within = omega (arith, at .node .in-use, at .node .header .2)
 
   hop : ℕ
-  hop = word w (nodeWord p 2) - 1
+  hop = word w (slotWord p 2) - 1
 
   is-hop : trieOf w .hop (p - 1) ≡ some hop
   unfolding hop
@@ -103,7 +104,7 @@ module _ (w w′ : List ℕ) (h : Header) (p : ℕ) (at : RouteAt w h p) where
 
   -- ---- it is a leaf
 
-  module _ (is-left : word w (cellWord (2 * p)) ≡ 0) (is-right : word w (cellWord (2 * p + 1)) ≡ 0) (cell : ℕ) (is-up : cell ≡ word w (nodeWord p 5)) where
+  module _ (is-left : word w (cellWord (2 * p)) ≡ 0) (is-right : word w (cellWord (2 * p + 1)) ≡ 0) (cell : ℕ) (is-up : cell ≡ word w (slotWord p 5)) where
     no-left : trieOf w .child (Kid (p - 1) false) ≡ none
     no-left = left-child ∙ rw is-left none-numbered
 
@@ -140,13 +141,13 @@ module _ (w w′ : List ℕ) (h : Header) (p : ℕ) (at : RouteAt w h p) where
         parent-in : SoundTable w → parent ≤ nodesOf w
         parent-in s = omega (arith, cell-in s .1)
 
-        pub gone-leaf : (mark : ℕ) → mark ≡ word w (nodeWord parent 2) → ¬ (mark ≡ 0) → w′ ≡ without w (h .nodes) (h .routes) p 0 → Gone w w′ p Done
+        pub gone-leaf : (mark : ℕ) → mark ≡ word w (slotWord parent 2) → ¬ (mark ≡ 0) → w′ ≡ without w (h .nodes) (h .routes) p 0 → Gone w w′ p Done
         gone-leaf mark is-mark n e = gone (λ s.
             rw (dropped 0 e) (one-less s 0 (omega arith) (rw none-numbered
             (withdraw-leaf (nodesOf w) (s .trie) (s .branches) (p - 1) (omega (arith, within, pos)) _ refl no-left no-right (parent - 1) (one? (cell % 2)) (mark - 1) up-kid
             (sym (hop-word w parent (omega arith)) ∙ rw (← is-mark) (numbered-node mark (omega arith)))))))
 
-        module _ (mark other : ℕ) (is-mark : mark ≡ word w (nodeWord parent 2)) (branch : mark ≡ 0) (apart : ¬ (parent ≡ p))
+        module _ (mark other : ℕ) (is-mark : mark ≡ word w (slotWord parent 2)) (branch : mark ≡ 0) (apart : ¬ (parent ≡ p))
             (is-other : other ≡ word w (cellWord (2 * parent + (1 - cell % 2)))) where
           parent-hop : trieOf w .hop (parent - 1) ≡ none
           parent-hop = sym (hop-word w parent (omega arith)) ∙ rw (← is-mark, branch) none-numbered

@@ -9,7 +9,8 @@ use Rattle.prefix.specs.declared.Address.{Address}
 use Rattle.model.specs.Lists.{_∈_}
 use Rattle.model.specs.Routes.{Route, Table}
 use Rattle.trie.proofs.Holding.{held-in}
-use Rattle.nodes.specs.Layout.{nodeWord, word, nodesOf, trieOf}
+use Rattle.sizes.specs.BothStores.{slotWord, word}
+use Rattle.nodes.specs.Layout.{nodesOf, trieOf}
 use Rattle.nodes.specs.declared.Header.{Header}
 use Rattle.table.specs.Tables.{routes}
 use Rattle.table.specs.Stops.{Stopped}
@@ -28,7 +29,7 @@ some-in (x ∷ l) i = omega arith
 
 -- ---- at the prefix's own node
 
-module _ (w : List ℕ) (h : Header) (p : ℕ) (at : NodeAt w h p) (mark : ℕ) (is-mark : mark ≡ word w (nodeWord p 2)) where
+module _ (w : List ℕ) (h : Header) (p : ℕ) (at : NodeAt w h p) (mark : ℕ) (is-mark : mark ≡ word w (slotWord p 2)) where
   pub at-branch : mark ≡ 0 → Answered w w 0 (withdrawalAt w p) NotHeld
   at-branch z = not-held w 0 _ (λ s. withdraw-not-held _ _ 0 _ (omega arith) (branch-new w h p at mark is-mark s z))
 
@@ -54,6 +55,6 @@ module _ (w : List ℕ) (a : Address) (n : ℕ) (short : n ≤ 32) (stop : Stop)
   pub none-contains : stop .last ≡ 0 → Answered w w n (withdrawal a n) NotHeld
   none-contains z = not-held w n _ (λ s. withdraw-not-held _ _ n _ short (landed-new w a n short stop at s (landed-first w a n short stop at s z)))
 
-  module _ (some-last : ¬ (stop .last ≡ 0)) (own : ℕ) (is-own : own ≡ word w (nodeWord (stop .last) 1)) where
+  module _ (some-last : ¬ (stop .last ≡ 0)) (own : ℕ) (is-own : own ≡ word w (slotWord (stop .last) 1)) where
     pub last-shorter : ¬ (own ≡ n) → Answered w w n (withdrawal a n) NotHeld
     last-shorter ne = not-held w n _ (λ s. withdraw-not-held _ _ n _ short (landed-new w a n short stop at s (landed-after w a n short stop at s some-last own is-own ne)))

@@ -5,7 +5,8 @@ use Prim.Native.Nat.{ℕ, _-_, _<_}
 use lib.ListN.{take}
 use Rattle.prefix.specs.declared.Address.{Address}
 use Rattle.model.specs.Routes as model
-use Rattle.nodes.specs.Layout.{nodeWord, word, trieOf}
+use Rattle.sizes.specs.BothStores.{slotWord, word}
+use Rattle.nodes.specs.Layout.{trieOf}
 use Rattle.nodes.specs.declared.Header.{Header}
 use Rattle.prefix.specs.Addresses.{ipv4Bits}
 use Rattle.table.specs.Tables.{SoundTable}
@@ -24,7 +25,7 @@ withdrawalAt w p = record { prefix = trieOf w .prefix (p - 1); action = model.wi
 pub record RouteAt (w : List ℕ) (h : Header) (p : ℕ) : Type 0 where
   pub node : NodeAt w h p
   pub some-route : 0 < h .routes
-  pub is-route : ¬ (word w (nodeWord p 2) ≡ 0)
+  pub is-route : ¬ (word w (slotWord p 2) ≡ 0)
 
 -- the route at node p is gone
 pub record Gone (w w′ : List ℕ) (p : ℕ) (r : Verdict) : Type 0 where

@@ -5,7 +5,7 @@ use mathlib.Core.List.{List}
 use Prim.Native.Nat.{ℕ, _+_, _-_, _*_, _/_, _≤_}
 use lib.Dec.{eqb, ltb}
 use Rattle.sizes.specs.Sizes.{largestLimit}
-use Rattle.nodes.specs.Layout.{nodeWord, word, Room}
+use Rattle.sizes.specs.BothStores.{slotWord, word, Room}
 use Rattle.nodes.specs.Stores.{putUp, putChild, putNode, putCounts, nodeIn}
 use Rattle.nodes.specs.declared.Node.{Node}
 
@@ -23,7 +23,7 @@ hung w m p cell = cond (eqb p 0 || ltb m p) w (putUp w p cell)
 
 -- node p is taken out: its one child, or none, takes its cell
 unfoldable pub cut : List ℕ → ℕ → ℕ → ℕ → List ℕ
-cut w m p kid = hung (pointed w m (word w (nodeWord p 5)) kid) m kid (word w (nodeWord p 5))
+cut w m p kid = hung (pointed w m (word w (slotWord p 5)) kid) m kid (word w (slotWord p 5))
 
 -- a node comes to the place p, and its cell and its children know it
 unfoldable pub placed : List ℕ → ℕ → ℕ → Node → List ℕ

@@ -1,6 +1,6 @@
 -- `removal::copy_entry` meets its contract. Assumes nothing.
 use native.Mathlib.Omega.{arith}
-use Rattle.slots.specs.Layout.{slotWord}
+use Rattle.sizes.specs.BothStores.{slotWord}
 use Rattle.removal.proofs.Moving.{long-entry, copies}
 use borrow.Author.Needs.{needs}
 use Rattle.removal.proofs.copy_entry.Statement.{statement}
