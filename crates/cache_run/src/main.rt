@@ -20,26 +20,10 @@ struct Totals {
     digest: u64,
 }
 
-fn one_more(n: u64) -> u64 {
-    std::num::wrapping_add_u64(n, 1)
-}
-
-fn next(seed: u64) -> u64 {
-    (seed % 4_294_967_296 * 1_103_515_245 + 12_345) % 4_294_967_296
-}
-
-// The low bits of such a seed repeat soon, so that only the high ones are used.
-fn high(seed: u64) -> u64 {
-    seed / 65_536
-}
-
 fn address_for(seed: u64) -> Address {
-    let pattern = high(next(seed)) % 64 * 68_174_084 + high(next(next(seed))) % 4;
+    let pattern = test_tools::high(test_tools::next(seed)) % 64 * 68_174_084
+        + test_tools::high(test_tools::next(test_tools::next(seed))) % 4;
     prefix::from_ipv4((pattern % 4_294_967_296) as u32)
-}
-
-fn digested(digest: u64, n: u64) -> u64 {
-    (digest % 1_000_003 * 31 + n % 1_000_003) % 1_000_003
 }
 
 // ---- one turn
@@ -47,7 +31,7 @@ fn digested(digest: u64, n: u64) -> u64 {
 // The first bits of x, one to three more than any entry shares with it. Where there is no room the least recently used entry
 // goes first: how many went.
 fn insert(store: &mut [u32], x: Address, past: u32, seed: u64, turn: u32) -> u64 {
-    let n = shorter(past, high(seed));
+    let n = shorter(past, test_tools::high(seed));
     let hop = hop_for(turn);
     match cache::insert(store, x, n, hop) {
         Change::Made => 0,
@@ -79,32 +63,32 @@ fn shorter(past: u32, k: u64) -> u32 {
 
 fn store_new(store: &mut [u32], x: Address, past: u32, turn: u32, t: Totals) -> Totals {
     let mut u = t;
-    u.stored = one_more(t.stored);
+    u.stored = test_tools::one_more(t.stored);
     u.removed = std::num::wrapping_add_u64(t.removed, insert(store, x, past, t.seed, turn));
     u
 }
 
 fn use_or_remove(store: &mut [u32], slot: u32, t: Totals) -> Totals {
     let mut u = t;
-    if high(t.seed) % 10 < 4 {
+    if test_tools::high(t.seed) % 10 < 4 {
         cache::remove(store, slot);
-        u.removed = one_more(t.removed);
+        u.removed = test_tools::one_more(t.removed);
         return u;
     }
     cache::touch(store, slot);
-    u.hits = one_more(t.hits);
+    u.hits = test_tools::one_more(t.hits);
     u
 }
 
 fn turn_once(store: &mut [u32], turn: u32, t: Totals) -> Totals {
     let x = address_for(t.seed);
     let mut u = t;
-    u.seed = next(next(next(t.seed)));
+    u.seed = test_tools::next(test_tools::next(test_tools::next(t.seed)));
     match cache::find(store, x) {
         Sought::Entry(slot) => use_or_remove(store, slot, u),
         Sought::Nothing(past) => store_new(store, x, past, turn, u),
         Sought::Unsound => {
-            u.unsound = one_more(t.unsound);
+            u.unsound = test_tools::one_more(t.unsound);
             u
         }
     }
@@ -138,7 +122,7 @@ fn seen_at(store: &[u32], at: u32, digest: u64, shown: bool) -> Seen
     show_entry(shown, slots::address_of(store, at), n, hop);
     Seen {
         at: next,
-        digest: digested(digest, (hop as u64) * 64 + (n as u64)),
+        digest: test_tools::digested(digest, (hop as u64) * 64 + (n as u64)),
     }
 }
 
@@ -196,7 +180,7 @@ fn show_entry(shown: bool, a: Address, n: u32, hop: u32) {
 fn checked(store: &[u32], t: Totals) -> Totals {
     let mut u = t;
     if !cache::check::check_entries(store) {
-        u.unsound = one_more(t.unsound);
+        u.unsound = test_tools::one_more(t.unsound);
     }
     u.digest = see_all(store, t.digest, false);
     u
@@ -220,20 +204,14 @@ fn run(store: &mut [u32]) -> Totals {
     t
 }
 
-fn show(name: &[u8], n: u64) {
-    io::write_all(1, name);
-    io::print_decimal(1, n);
-    io::write_all(1, b"\n");
-}
-
 fn main() {
     let mut store = [0xffff_ffffu32; 1400];
     cache::set_up(&mut store, 40);
     let t = run(&mut store);
-    show(b"hits ", t.hits);
-    show(b"stored ", t.stored);
-    show(b"removed ", t.removed);
-    show(b"unsound ", t.unsound);
-    show(b"digest ", t.digest);
+    test_tools::show(b"hits ", t.hits);
+    test_tools::show(b"stored ", t.stored);
+    test_tools::show(b"removed ", t.removed);
+    test_tools::show(b"unsound ", t.unsound);
+    test_tools::show(b"digest ", t.digest);
     see_all(&store, 0, true);
 }

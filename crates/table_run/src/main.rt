@@ -20,19 +20,6 @@ struct Totals {
     digest: u64,
 }
 
-fn one_more(n: u64) -> u64 {
-    std::num::wrapping_add_u64(n, 1)
-}
-
-fn next(seed: u64) -> u64 {
-    (seed % 4_294_967_296 * 1_103_515_245 + 12_345) % 4_294_967_296
-}
-
-// The low bits of such a seed repeat soon, so that only the high ones are used.
-fn high(seed: u64) -> u64 {
-    seed / 65_536
-}
-
 // One of eight patterns of bits, each nested in itself at every length.
 fn pattern(k: u64) -> Address {
     prefix::from_ipv4((k % 8 * 613_566_756 % 4_294_967_296) as u32)
@@ -40,25 +27,25 @@ fn pattern(k: u64) -> Address {
 
 fn digested(t: Totals, answer: u64) -> Totals {
     let mut u = t;
-    u.digest = (t.digest % 1_000_003 * 31 + answer % 1_000_003) % 1_000_003;
+    u.digest = test_tools::digested(t.digest, answer);
     u
 }
 
 fn update_for(seed: u64, turn: u32) -> Update {
-    let first = next(seed);
-    let second = next(first);
-    let third = next(second);
-    let length = (high(second) % 33) as u32;
-    let few = high(third) % 16 < 4;
+    let first = test_tools::next(seed);
+    let second = test_tools::next(first);
+    let third = test_tools::next(second);
+    let length = (test_tools::high(second) % 33) as u32;
+    let few = test_tools::high(third) % 16 < 4;
     let emptying = turn / 300 % 2 == 1;
     let action = if few != emptying {
         Action::Withdraw
     } else {
-        Action::Announce(1 + ((high(third) % 60_000) as u32))
+        Action::Announce(1 + ((test_tools::high(third) % 60_000) as u32))
     };
     Update {
         prefix: Prefix {
-            address: pattern(high(first)),
+            address: pattern(test_tools::high(first)),
             length,
         },
         action,
@@ -69,16 +56,16 @@ fn counted(t: Totals, v: Verdict) -> Totals {
     let mut u = t;
     match v {
         Verdict::Done => {
-            u.done = one_more(t.done);
+            u.done = test_tools::one_more(t.done);
         }
         Verdict::Full => {
-            u.full = one_more(t.full);
+            u.full = test_tools::one_more(t.full);
         }
         Verdict::NotHeld => {
-            u.not_held = one_more(t.not_held);
+            u.not_held = test_tools::one_more(t.not_held);
         }
         Verdict::TooLong | Verdict::BadHop | Verdict::Unsound => {
-            u.unsound = one_more(t.unsound);
+            u.unsound = test_tools::one_more(t.unsound);
         }
     }
     u
@@ -98,13 +85,13 @@ fn turn_once(store: &mut [u32], k: u32, t: Totals) -> Totals {
     let u = update_for(t.seed, k);
     let v = updates::update_table(store, u);
     let mut after = counted(t, v);
-    after.seed = next(next(next(next(t.seed))));
+    after.seed = test_tools::next(test_tools::next(test_tools::next(test_tools::next(t.seed))));
     if !table::check(store) {
-        after.unsound = one_more(after.unsound);
+        after.unsound = test_tools::one_more(after.unsound);
     }
     let x = prefix::trim_high(
-        pattern(high(after.seed) % 64 / 8),
-        ((high(after.seed) % 8) as u32) * 4 + 4,
+        pattern(test_tools::high(after.seed) % 64 / 8),
+        ((test_tools::high(after.seed) % 8) as u32) * 4 + 4,
     );
     digested(after, answer_of(store, x))
 }
@@ -126,19 +113,13 @@ fn run(store: &mut [u32]) -> Totals {
     t
 }
 
-fn show(name: &[u8], n: u64) {
-    io::write_all(1, name);
-    io::print_decimal(1, n);
-    io::write_all(1, b"\n");
-}
-
 fn main() {
     let mut store = [0xffff_ffffu32; 2048];
     table::set_up(&mut store, 64);
     let t = run(&mut store);
-    show(b"done ", t.done);
-    show(b"full ", t.full);
-    show(b"not held ", t.not_held);
-    show(b"unsound ", t.unsound);
-    show(b"digest ", t.digest);
+    test_tools::show(b"done ", t.done);
+    test_tools::show(b"full ", t.full);
+    test_tools::show(b"not held ", t.not_held);
+    test_tools::show(b"unsound ", t.unsound);
+    test_tools::show(b"digest ", t.digest);
 }
