@@ -43,7 +43,8 @@ fn half_common(x: u64, y: u64) -> u32
     u64::leading_zeros(x ^ y)
 }
 
-fn smaller(m: u32, n: u32) -> u32
+// Of two lengths the smaller, without a branch.
+pub fn smaller(m: u32, n: u32) -> u32
     ensures { λ r. ⌜ r ≡ min m n ⌝ }
 {
     if m <= n { m } else { n }

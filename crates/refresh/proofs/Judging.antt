@@ -3,16 +3,19 @@ use mathlib.Core.Path.{_≡_, refl, sym, ap, _∙_, subst}
 use mathlib.Core.Bool.{Bool, true, false, not, _&&_, _||_}
 use mathlib.Core.List.{List}
 use mathlib.Core.Option.{Option, none, some}
-use Prim.Native.Nat.{ℕ, _%_, _≤_, _<_}
+use Prim.Native.Nat.{ℕ, _%_, _≤_, _<_, min}
 use native.Mathlib.Omega.{arith}
+use native.Mathlib.Nat.{min-eq-left, min-eq-right}
 use lib.ListN.{length, take}
 use lib.Seq.{take-take}
+use lib.Dec.{ltb}
+use borrow.Author.Tests.{ltb-true, ltb-false}
 use Rattle.prefix.specs.Bits.{Bits, bits}
 use Rattle.prefix.specs.Prefix.{contains, strictlyInside, overlap, same, _⊑_}
 use Rattle.prefix.specs.Addresses.{addressBits, ipv4Bits}
 use Rattle.prefix.specs.declared.Address.{Address}
 use Rattle.prefix.proofs.Booleans.{or-right, not-false, is-false, clash}
-use Rattle.prefix.proofs.Order.{⊑-length, ⊑-of-eq, ⊑-eq, take-len, take-⊑, ⊑-take}
+use Rattle.prefix.proofs.Order.{⊑-of-eq, ⊑-eq, take-len, take-⊑, ⊑-take}
 use Rattle.prefix.proofs.Tests.{contains-⊑, ⊑-contains, contains-of-take, ne-same, eq-same}
 use Rattle.prefix.proofs.AddressLaws.{length-address}
 use Rattle.model.specs.Lists.{_∈_, any}
@@ -46,10 +49,6 @@ ipv4-length a = take-len 32 (addressBits a) (omega (arith, length-address a))
 -- ---- prefixes that overlap
 
 -- if they do, the shorter contains the longer
-overlap-longer : (p q : Bits) → length q < length p → overlap p q ≡ contains q p
-unfolding overlap
-overlap-longer p q l = let no : contains p q ≡ false = is-false {b = contains p q} (λ e. omega (arith, ⊑-length (contains-⊑ p q e))) in rw no
-
 overlap-shorter : (p q : Bits) → length p ≤ length q → overlap p q ≡ contains p q
 unfolding overlap
 overlap-shorter p q l = go (contains p q) refl
@@ -57,6 +56,29 @@ overlap-shorter p q l = go (contains p q) refl
     go : (b : Bool) → contains p q ≡ b → (b || contains q p) ≡ b
     go true e = refl
     go false e = is-false (λ f. let h = contains-⊑ q p f in clash (⊑-contains (⊑-of-eq (sym (⊑-eq h l)))) e)
+
+overlap-longer : (p q : Bits) → length q ≤ length p → overlap p q ≡ contains q p
+unfolding overlap
+overlap-longer p q l = or-swap (contains p q) (contains q p) ∙ overlap-shorter q p l
+  where
+    or-swap : (a b : Bool) → (a || b) ≡ (b || a)
+    or-swap true true = refl
+    or-swap true false = refl
+    or-swap false true = refl
+    or-swap false false = refl
+
+-- the first m bits of either are those of the other
+covers-swap : (m : ℕ) (x y : Bits) → m ≤ length x → m ≤ length y → contains (take m x) y ≡ contains (take m y) x
+covers-swap m x y h k = go (contains (take m x) y) (contains (take m y) x) (swapped x y h) (swapped y x k)
+  where
+    swapped : (u v : Bits) → m ≤ length u → contains (take m u) v ≡ true → contains (take m v) u ≡ true
+    swapped u v l e =
+        let same-bits : take m v ≡ take m u = subst (λ (i : ℕ). take i v ≡ take m u) (take-len m u l) (⊑-take (contains-⊑ (take m u) v e)) in
+        ⊑-contains (subst (λ (q : Bits). q ⊑ u) (sym same-bits) (take-⊑ m u))
+
+    go : (b d : Bool) → (b ≡ true → d ≡ true) → (d ≡ true → b ≡ true) → b ≡ d
+    go true d f g = sym (f refl)
+    go false d f g = sym (is-false (λ e. clash (g e) refl))
 
 module _ (p : Prefix) (a : Address) (n : ℕ) where
   pub long-touched : 32 < n → Touches p a n true
@@ -68,15 +90,28 @@ module _ (p : Prefix) (a : Address) (n : ℕ) where
   update-length : p .length ≤ 32 → length (take (p .length) (addressBits (p .address))) ≡ p .length
   update-length shorter = take-len (p .length) (addressBits (p .address)) (omega (arith, length-address (p .address)))
 
-  pub longer-touched : p .length < n → (r : Bool) → r ≡ contains (take (p .length) (addressBits (p .address))) (addressBits a) → Touches p a n r
-  longer-touched l r is short shorter = rw (take-take n 32 (addressBits a) short, take-take (p .length) 32 (addressBits (p .address)) shorter)
-      (is ∙ sym (contains-of-take n (take (p .length) (addressBits (p .address))) (addressBits a) (omega (arith, update-length shorter)))
-      ∙ sym (overlap-longer (take n (addressBits a)) (take (p .length) (addressBits (p .address))) (omega (arith, update-length shorter, its-length short))))
+  -- they agree in the bits of the shorter
+  pub touched : (m : ℕ) → m ≡ min n (p .length) → (r : Bool) → r ≡ contains (take m (addressBits a)) (addressBits (p .address)) → Touches p a n r
+  touched m e r is short shorter = rw (take-take n 32 (addressBits a) short, take-take (p .length) 32 (addressBits (p .address)) shorter) (by-shorter (ltb (p .length) n) refl)
+    where
+      A : Bits
+      A = addressBits a
 
-  pub shorter-touched : n ≤ p .length → (r : Bool) → r ≡ contains (take n (addressBits a)) (addressBits (p .address)) → Touches p a n r
-  shorter-touched l r is short shorter = rw (take-take n 32 (addressBits a) short, take-take (p .length) 32 (addressBits (p .address)) shorter)
-      (is ∙ sym (contains-of-take (p .length) (take n (addressBits a)) (addressBits (p .address)) (omega (arith, its-length short)))
-      ∙ sym (overlap-shorter (take n (addressBits a)) (take (p .length) (addressBits (p .address))) (omega (arith, update-length shorter, its-length short))))
+      P : Bits
+      P = addressBits (p .address)
+
+      by-shorter : (b : Bool) → ltb (p .length) n ≡ b → r ≡ overlap (take n A) (take (p .length) P)
+      by-shorter false z =
+          let l = ltb-false (p .length) n z in
+          is ∙ ap (λ (k : ℕ). contains (take k A) P) (e ∙ min-eq-left l)
+          ∙ sym (contains-of-take (p .length) (take n A) P (omega (arith, its-length short)))
+          ∙ sym (overlap-shorter (take n A) (take (p .length) P) (omega (arith, update-length shorter, its-length short)))
+      by-shorter true z =
+          let l : p .length ≤ n = omega (arith, ltb-true (p .length) n z) in
+          is ∙ ap (λ (k : ℕ). contains (take k A) P) (e ∙ min-eq-right l)
+          ∙ covers-swap (p .length) A P (omega (arith, length-address a)) (omega (arith, length-address (p .address)))
+          ∙ sym (contains-of-take n (take (p .length) P) A (omega (arith, update-length shorter)))
+          ∙ sym (overlap-longer (take n A) (take (p .length) P) (omega (arith, update-length shorter, its-length short)))
 
 -- ---- the withdrawn prefix
 

@@ -121,17 +121,16 @@ fn refresh_one(table: &[u32], cache: &mut [u32], u: Update, p: Pass) -> Pass
     keep_one(cache, p, hop)
 }
 
-// Whether the first n bits of a overlap the prefix p: the shorter of the two contains the other.
+// Whether the first n bits of a overlap the prefix p: they agree in the bits of the shorter. There is no branch on which of the
+// two that is, since no processor could foresee it.
 fn touches(p: Prefix, a: Address, n: u32) -> bool
     ensures { λ r. ⌜ Touches p a n r ⌝ }
 {
     if 32 < n {
         return true;
     }
-    if p.length < n {
-        return prefix::covers_high(p.address, p.length, a);
-    }
-    prefix::covers_high(a, n, p.address)
+    let shorter = prefix::smaller(n, p.length);
+    prefix::covers_high(a, shorter, p.address)
 }
 
 // Whether the prefix of the first n bits of a was just withdrawn.
