@@ -1,5 +1,1 @@
-pub mod Passing
-pub mod Turning
-pub mod Judging
-pub mod Going
 pub mod UpdateLaws

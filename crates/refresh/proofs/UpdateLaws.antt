@@ -36,12 +36,12 @@ use Rattle.verdicts.specs.declared.Verdict.{Verdict}
 use Rattle.verdicts.specs.declared.Verdict.the-variants.{Done, TooLong, BadHop, Full, NotHeld, Unsound}
 use Rattle.updates.specs.Updates.{actionOf, prefixOfUpdate, updateOf, firstRefusal, TableUpdated}
 use Rattle.updates.specs.declared.Update.{Update}
-use Rattle.refresh.specs.declared.Pass.{Pass}
+use Rattle.renewal.specs.declared.Pass.{Pass}
 use Rattle.refresh.specs.declared.Updated.{Updated}
 use Rattle.pairs.specs.Pairs.{SoundPair, limitsOf}
 use Rattle.pairs.specs.States.{stateOf, Reached}
 use Rattle.refresh.specs.Promises.{updatedOf, updateStep, UpdatedPair, Refused, UpdatePromise, unfitNumber, refusedBy, Numbered}
-use Rattle.refresh.specs.Passes.{RightApart, Renewed, Passed}
+use Rattle.renewal.specs.Passes.{RightApart, Renewed, Passed}
 use Rattle.pairs.proofs.Pairing.{legal-pair}
 
 -- ---- what the model says

@@ -41,8 +41,8 @@ same-length-3 c = search needs
 returns-2 : tie.Need-returns-2
 returns-2 c = search (needs, header-shaped, table-refused, numbered-refused)
 
-refresh-requires : tie.Need-refresh-requires
-refresh-requires c κs = search (needs, header-shaped, header-entries)
+renew-requires : tie.Need-renew-requires
+renew-requires c κs = search (needs, header-shaped, header-entries)
 
 count-removed-requires : tie.Need-count-removed-requires
 count-removed-requires c κs = search needs
@@ -72,7 +72,7 @@ update-pair-spec =
     same-length-2
     same-length-3
     returns-2
-    refresh-requires
+    renew-requires
     count-removed-requires
     same-length-4
     same-length-5

@@ -17,7 +17,7 @@ use Rattle.entries.specs.Caches.{entries, SoundEntries, Slot, entryIn, Kept}
 use Rattle.updates.specs.Updates.{actionOf, prefixOfUpdate, updateOf}
 use Rattle.updates.specs.declared.Prefix.{Prefix}
 use Rattle.updates.specs.declared.Update.{Update}
-use Rattle.refresh.specs.declared.Pass.{Pass}
+use Rattle.renewal.specs.declared.Pass.{Pass}
 
 -- ---- on any store
 

@@ -38,10 +38,10 @@ use Rattle.updates.specs.Updates.{actionOf, prefixOfUpdate, updateOf}
 use Rattle.updates.specs.declared.Action.the-variants.{Announce, Withdraw}
 use Rattle.updates.specs.declared.Prefix.{Prefix}
 use Rattle.updates.specs.declared.Update.{Update}
-use Rattle.refresh.specs.declared.Pass.{Pass}
-use Rattle.refresh.specs.Passes.{Within, nextPass, Turned, Drops, Keeps, Ready, Turns, Touches, Alike, Withdrawn}
+use Rattle.renewal.specs.declared.Pass.{Pass}
+use Rattle.renewal.specs.Passes.{Within, nextPass, Turned, Drops, Keeps, Ready, Turns, Touches, Alike, Withdrawn}
 use Rattle.pairs.proofs.Pairing.{routes-hops}
-use Rattle.refresh.proofs.Turning.{right-already}
+use Rattle.renewal.proofs.Turning.{right-already}
 
 ipv4-length : (a : Address) → length (ipv4Bits a) ≡ 32
 ipv4-length a = take-len 32 (addressBits a) (omega (arith, length-address a))

@@ -1,8 +1,8 @@
--- `refresh::touches` meets its contract. Assumes nothing.
-use Rattle.refresh.proofs.Judging.{long-touched, touched}
+-- `renewal::touches` meets its contract. Assumes nothing.
+use Rattle.renewal.proofs.Judging.{long-touched, touched}
 use borrow.Author.Needs.{needs}
-use Rattle.refresh.proofs.touches.Statement.{statement}
-use Rattle.refresh.proofs.touches.Tie as tie
+use Rattle.renewal.proofs.touches.Statement.{statement}
+use Rattle.renewal.proofs.touches.Tie as tie
 
 returns : tie.Need-returns
 returns c = search (needs, long-touched)

@@ -19,10 +19,10 @@ use Rattle.lru.proofs.Holding.{keep-others, slot-entry, entry-slot}
 use Rattle.sizes.specs.BothStores.{slotWord, word}
 use Rattle.slots.specs.Layout.{entriesHeld, cacheOf, Shaped}
 use Rattle.entries.specs.Caches.{entries, SoundEntries, Slot, entryIn, withHop, rehopped, Kept, Removes, Rehops}
-use Rattle.refresh.specs.declared.Pass.{Pass}
-use Rattle.refresh.specs.Passes.{Within, Stepped, Right, RightAbove, RightApart, Turned, Drops, Keeps, nextPass}
+use Rattle.renewal.specs.declared.Pass.{Pass}
+use Rattle.renewal.specs.Passes.{Within, Stepped, Right, RightAbove, RightApart, Turned, Drops, Keeps, nextPass}
 use Rattle.pairs.proofs.Pairing.{held-entries}
-use Rattle.refresh.proofs.Passing.{leaves-prefix, fresh-prefix, rehop-cache, rehop-removed, rehop-changed, fewer-removed}
+use Rattle.renewal.proofs.Passing.{leaves-prefix, fresh-prefix, rehop-cache, rehop-removed, rehop-changed, fewer-removed}
 
 shaped-after : {w w′ : List ℕ} {held : ℕ} → Shaped w → Kept w w′ held → length w′ ≡ length w → held ≤ entriesHeld w → Shaped w′
 shaped-after s k size low = record {

@@ -15,7 +15,7 @@ use Rattle.model.proofs.ListLaws.{keep-both}
 use Rattle.trie.proofs.Pigeonhole.{Distinct}
 use Rattle.lru.proofs.Using.{map-same}
 use Rattle.lru.proofs.Rings.{mem-ne}
-use Rattle.refresh.specs.Passes.{Right}
+use Rattle.renewal.specs.Passes.{Right}
 
 module _ (T : Table) (u : Update) where
   -- ---- one more entry

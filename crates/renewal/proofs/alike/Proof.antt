@@ -1,8 +1,8 @@
--- `refresh::alike` meets its contract. Assumes nothing.
-use Rattle.refresh.proofs.Judging.{other-length, too-long, same-bits}
+-- `renewal::alike` meets its contract. Assumes nothing.
+use Rattle.renewal.proofs.Judging.{other-length, too-long, same-bits}
 use borrow.Author.Needs.{needs}
-use Rattle.refresh.proofs.alike.Statement.{statement}
-use Rattle.refresh.proofs.alike.Tie as tie
+use Rattle.renewal.proofs.alike.Statement.{statement}
+use Rattle.renewal.proofs.alike.Tie as tie
 
 returns : tie.Need-returns
 returns c = search (needs, other-length)

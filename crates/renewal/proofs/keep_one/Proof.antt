@@ -1,8 +1,8 @@
--- `refresh::keep_one` meets its contract. Assumes nothing.
-use Rattle.refresh.proofs.Turning.{left-alone, has-hop, high-hop, hop-given, gives-hop}
+-- `renewal::keep_one` meets its contract. Assumes nothing.
+use Rattle.renewal.proofs.Turning.{left-alone, has-hop, high-hop, hop-given, gives-hop}
 use borrow.Author.Needs.{needs}
-use Rattle.refresh.proofs.keep_one.Statement.{statement}
-use Rattle.refresh.proofs.keep_one.Tie as tie
+use Rattle.renewal.proofs.keep_one.Statement.{statement}
+use Rattle.renewal.proofs.keep_one.Tie as tie
 
 hop-of-requires : tie.Need-hop-of-requires
 hop-of-requires c κs = search needs

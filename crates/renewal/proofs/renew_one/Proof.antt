@@ -1,9 +1,9 @@
--- `refresh::refresh_one` meets its contract. Assumes nothing.
-use Rattle.refresh.proofs.Turning.{left-alone}
-use Rattle.refresh.proofs.Judging.{untouched, no-match, route-inside, own-withdrawn, stays-fresh}
+-- `renewal::renew_one` meets its contract. Assumes nothing.
+use Rattle.renewal.proofs.Turning.{left-alone}
+use Rattle.renewal.proofs.Judging.{untouched, no-match, route-inside, own-withdrawn, stays-fresh}
 use borrow.Author.Needs.{needs}
-use Rattle.refresh.proofs.refresh_one.Statement.{statement}
-use Rattle.refresh.proofs.refresh_one.Tie as tie
+use Rattle.renewal.proofs.renew_one.Statement.{statement}
+use Rattle.renewal.proofs.renew_one.Tie as tie
 
 address-of-requires : tie.Need-address-of-requires
 address-of-requires c κs = search needs
@@ -71,8 +71,8 @@ same-length-5 c = search needs
 returns-5 : tie.Need-returns-5
 returns-5 c = search (needs, stays-fresh)
 
-pub refresh-one-spec : {M : Type 1} → statement M
-refresh-one-spec =
+pub renew-one-spec : {M : Type 1} → statement M
+renew-one-spec =
     tie.close
     (tie.spec
     address-of-requires

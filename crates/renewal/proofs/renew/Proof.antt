@@ -1,10 +1,10 @@
--- `refresh::refresh` meets its contract. Assumes nothing.
+-- `renewal::renew` meets its contract. Assumes nothing.
 use Prim.Native.Nat.{_+_}
-use Rattle.refresh.specs.Passes.{Going}
-use Rattle.refresh.proofs.Going.{going-start, at-slot, going-on, going-done}
+use Rattle.renewal.specs.Passes.{Going}
+use Rattle.renewal.proofs.Going.{going-start, at-slot, going-on, going-done}
 use borrow.Author.Needs.{needs}
-use Rattle.refresh.proofs.refresh.Statement.{statement}
-use Rattle.refresh.proofs.refresh.Tie as tie
+use Rattle.renewal.proofs.renew.Statement.{statement}
+use Rattle.renewal.proofs.renew.Tie as tie
 
 abbrev Inv-loop : tie.InvT-loop
 Inv-loop table cache₀ u entries p₀ cache p = Going table cache₀ cache u p
@@ -15,8 +15,8 @@ abbrev μ-loop : tie.MeasureT-loop
 loop-holds : tie.Need-loop-holds Inv-loop μ-loop
 loop-holds c = search (needs, going-start)
 
-refresh-one-requires : tie.Need-refresh-one-requires Inv-loop μ-loop
-refresh-one-requires c κs = search (needs, at-slot)
+renew-one-requires : tie.Need-renew-one-requires Inv-loop μ-loop
+renew-one-requires c κs = search (needs, at-slot)
 
 loop-less : tie.Need-loop-less Inv-loop μ-loop
 loop-less c = search needs
@@ -30,14 +30,14 @@ same-length c = search needs
 returns : tie.Need-returns Inv-loop μ-loop
 returns c = search (needs, going-done)
 
-pub refresh-spec : {M : Type 1} → statement M
-refresh-spec =
+pub renew-spec : {M : Type 1} → statement M
+renew-spec =
     tie.close
     (tie.spec
     Inv-loop
     μ-loop
     loop-holds
-    refresh-one-requires
+    renew-one-requires
     loop-less
     loop-again
     same-length

@@ -1,8 +1,8 @@
--- `refresh::drop_one` meets its contract. Assumes nothing.
-use Rattle.refresh.proofs.Turning.{dropped-last, drops-last, dropped, drops}
+-- `renewal::drop_one` meets its contract. Assumes nothing.
+use Rattle.renewal.proofs.Turning.{dropped-last, drops-last, dropped, drops}
 use borrow.Author.Needs.{needs}
-use Rattle.refresh.proofs.drop_one.Statement.{statement}
-use Rattle.refresh.proofs.drop_one.Tie as tie
+use Rattle.renewal.proofs.drop_one.Statement.{statement}
+use Rattle.renewal.proofs.drop_one.Tie as tie
 
 remove-entry-requires : tie.Need-remove-entry-requires
 remove-entry-requires c κs = search needs

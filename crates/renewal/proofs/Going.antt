@@ -14,9 +14,9 @@ use Rattle.table.specs.Tables.{routes}
 use Rattle.entries.specs.Caches.{entries, SoundEntries, Slot, entryIn, Kept}
 use Rattle.updates.specs.Updates.{updateOf}
 use Rattle.updates.specs.declared.Update.{Update}
-use Rattle.refresh.specs.declared.Pass.{Pass}
-use Rattle.refresh.specs.Passes.{Within, Stepped, Right, RightAbove, Turned, Ready, Turns, startPass, Going, Renewed, Passed}
-use Rattle.refresh.proofs.Passing.{right-cache, right-removed, right-changed}
+use Rattle.renewal.specs.declared.Pass.{Pass}
+use Rattle.renewal.specs.Passes.{Within, Stepped, Right, RightAbove, Turned, Ready, Turns, startPass, Going, Renewed, Passed}
+use Rattle.renewal.proofs.Passing.{right-cache, right-removed, right-changed}
 
 pub going-start : {table w : List ℕ} {u : Update} {n : ℕ} → Shaped w → n ≡ entriesHeld w → Going table w w u (startPass n)
 going-start {table} {w} {u} {n} s e = rw e (record {

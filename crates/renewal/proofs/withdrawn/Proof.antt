@@ -1,8 +1,8 @@
--- `refresh::withdrawn` meets its contract. Assumes nothing.
-use Rattle.refresh.proofs.Judging.{announced, is-withdrawn}
+-- `renewal::withdrawn` meets its contract. Assumes nothing.
+use Rattle.renewal.proofs.Judging.{announced, is-withdrawn}
 use borrow.Author.Needs.{needs}
-use Rattle.refresh.proofs.withdrawn.Statement.{statement}
-use Rattle.refresh.proofs.withdrawn.Tie as tie
+use Rattle.renewal.proofs.withdrawn.Statement.{statement}
+use Rattle.renewal.proofs.withdrawn.Tie as tie
 
 enum-told : tie.Need-enum-told
 enum-told c = search needs
