@@ -3,14 +3,14 @@ use mathlib.Core.Path.{_≡_, refl, sym, _∙_, ap, subst}
 use mathlib.Core.List.{List}
 use mathlib.Core.Option.{some}
 use Prim.Native.Nat.{ℕ, zero, suc}
+use native.Mathlib.Omega.{arith}
 use Rattle.prefix.specs.Bits.{bits}
-use Rattle.prefix.specs.Addresses.{ipv4Bits}
 use Rattle.tallies.specs.declared.Tallies.{Tallies}
-use Rattle.model.specs.Routes.{announce, withdraw}
-use Rattle.model.specs.Runs.{look, update}
+use Rattle.model.specs.Runs.{Call, look, update}
 use Rattle.pairs.specs.Pairs.{SoundPair}
 use Rattle.updates.specs.Updates.{actionOf, Means}
 use Rattle.updates.specs.declared.Action.{Action}
+use Rattle.updates.specs.declared.Action.the-variants as action
 use Rattle.updates.specs.declared.Update.{Update}
 use Rattle.lookup.specs.Promises.{answerOf, ClearedIn, LookedUp}
 use Rattle.lookup.specs.declared.Answer.{Answer}
@@ -22,7 +22,9 @@ use Rattle.script.specs.declared.Line.{Line}
 use Rattle.script.specs.declared.Line.the-variants.{Announce, Withdraw, Look, Bad}
 use Rattle.answers.specs.declared.Said.{Said}
 use Rattle.answers.specs.declared.Said.the-variants as said
-use Rattle.interpreter.specs.Lines.{meant, Cleared, CallAnswered, LineAnswered, saidOf, saidOfUpdate}
+use Rattle.interpreter.specs.Lines.{meant, Cleared, CallAnswered, LineAnswered, callOf, Asks, saidOf, saidOfUpdate}
+use Rattle.interpreter.specs.declared.Asked.{Asked}
+use Rattle.interpreter.specs.declared.Asked.the-variants as asked
 use Rattle.interpreter.specs.declared.Answered.{Answered}
 
 -- ---- a lookup
@@ -65,32 +67,21 @@ cleared-update : (number removed changed : ℕ) → Cleared (saidOfUpdate number
 cleared-update zero removed changed = tt
 cleared-update (suc k) removed changed = tt
 
--- the update record means the model's call
-same-call : {address length : ℕ} {action : Action} {u : Update} → Means address length action u
-    → update (ipv4Bits (u .prefix .address)) (u .prefix .length) (actionOf (u .action)) ≡ update (bits 32 address) length (actionOf action)
-same-call means =
-    let p = means .its-address in
-    let q = means .its-length in
-    let r = ap actionOf (means .its-action) in
-    cc
-
-pub update-answered : {table cache table′ cache′ : List ℕ} {t : Tallies} {address length : ℕ} {action : Action} {said : Said} (u : Update) (call : Updated)
-    → Means address length action u
+pub update-answered : {table cache table′ cache′ : List ℕ} {t : Tallies} {said : Said} (u : Update) (call : Updated)
     → UpdatePromise table cache table′ cache′ t u call
     → said ≡ saidOfUpdate (call .number) (call .removed) (call .changed)
     → SoundPair table cache
-    → CallAnswered table cache table′ cache′ t (update (bits 32 address) length (actionOf action)) (record { said = said; tallies = call .tallies })
-update-answered {table} {cache} {table′} {cache′} {t} {said = said} u call means promise is S =
+    → CallAnswered table cache table′ cache′ t (callOf u) (record { said = said; tallies = call .tallies })
+update-answered u call promise is S =
     let U = promise .sound-pair S in
-    subst (λ x. CallAnswered table cache table′ cache′ t x (record { said = said; tallies = call .tallies })) (same-call means)
-    (record {
+    record {
       answer = ap meant is ∙ meant-update (call .number) (call .removed) (call .changed) ∙ ap some (U .answer);
       cleared = subst Cleared (sym is) (cleared-update (call .number) (call .removed) (call .changed));
       state = U .state;
       sound = U .sound;
       table-kept = U .table-kept;
       cache-kept = U .cache-kept;
-    })
+    }
 
 -- ---- by the case
 
@@ -113,25 +104,54 @@ pub said-refused : (number removed changed : ℕ) → ¬ (number ≡ 0) → said
 said-refused zero removed changed not-so = absurd (not-so refl)
 said-refused (suc k) removed changed not-so = refl
 
-module _ {table cache table′ cache′ : List ℕ} {t : Tallies} {line : Line} {r : Answered} where
-  pub announced : (a n hop : ℕ) → line ≡ Announce a n hop
-      → (SoundPair table cache → CallAnswered table cache table′ cache′ t (update (bits 32 a) n (announce hop)) r)
-      → LineAnswered table cache table′ cache′ t line r
-  announced a n hop is P = subst (λ l. LineAnswered table cache table′ cache′ t l r) (sym is) P
+-- ---- what a line asks
 
-  pub withdrawn : (a n : ℕ) → line ≡ Withdraw a n
-      → (SoundPair table cache → CallAnswered table cache table′ cache′ t (update (bits 32 a) n withdraw) r)
-      → LineAnswered table cache table′ cache′ t line r
-  withdrawn a n is P = subst (λ l. LineAnswered table cache table′ cache′ t l r) (sym is) P
+pub asks-announce : {line : Line} (a n hop : ℕ) (u : Update) → line ≡ Announce a n hop → Means a n (action.Announce hop) u → Asks line (asked.Update u)
+asks-announce a n hop u is means = subst (λ l. Asks l (asked.Update u)) (sym is) (u, refl, means)
 
-  pub looked-up : (a : ℕ) → line ≡ Look a
+pub asks-withdraw : {line : Line} (a n : ℕ) (u : Update) → line ≡ Withdraw a n → Means a n action.Withdraw u → Asks line (asked.Update u)
+asks-withdraw a n u is means = subst (λ l. Asks l (asked.Update u)) (sym is) (u, refl, means)
+
+pub asks-look : {line : Line} (a : ℕ) → line ≡ Look a → Asks line (asked.Look a)
+asks-look a is = subst (λ l. Asks l (asked.Look a)) (sym is) refl
+
+pub asks-nothing : {line : Line} → line ≡ Bad → Asks line asked.Nothing
+asks-nothing is = subst (λ l. Asks l asked.Nothing) (sym is) refl
+
+-- the update record means the model's call
+same-call : {address length : ℕ} {action : Action} {u : Update} → Means address length action u → callOf u ≡ update (bits 32 address) length (actionOf action)
+same-call means =
+    let p = means .its-address in
+    let q = means .its-length in
+    let r = ap actionOf (means .its-action) in
+    cc
+
+module _ {table cache table′ cache′ : List ℕ} {t : Tallies} {r : Answered} where
+  as-call : {x y : Call} → x ≡ y → (SoundPair table cache → CallAnswered table cache table′ cache′ t x r) → SoundPair table cache → CallAnswered table cache table′ cache′ t y r
+  as-call same P S = subst (λ x. CallAnswered table cache table′ cache′ t x r) same (P S)
+
+  pub updated : {x : Asked} (line : Line) (u : Update) → Asks line x → x ≡ asked.Update u
+      → (SoundPair table cache → CallAnswered table cache table′ cache′ t (callOf u) r)
+      → LineAnswered table cache table′ cache′ t line r
+  updated (Announce a n hop) u asks is P = let e : u ≡ asks .0 = cc in as-call (ap callOf e ∙ same-call (asks .2)) P
+  updated (Withdraw a n) u asks is P = let e : u ≡ asks .0 = cc in as-call (ap callOf e ∙ same-call (asks .2)) P
+  updated (Look a) u asks is P = let z : _≡_ {A = ℕ} 0 1 = cc in absurd (omega arith)
+  updated Bad u asks is P = let z : _≡_ {A = ℕ} 0 1 = cc in absurd (omega arith)
+
+  pub looked-up : {x : Asked} (line : Line) (a : ℕ) → Asks line x → x ≡ asked.Look a
       → (SoundPair table cache → CallAnswered table cache table′ cache′ t (look (bits 32 a)) r)
       → LineAnswered table cache table′ cache′ t line r
-  looked-up a is P = subst (λ l. LineAnswered table cache table′ cache′ t l r) (sym is) P
+  looked-up (Announce a n hop) b asks is P = let z : _≡_ {A = ℕ} 0 1 = cc in absurd (omega arith)
+  looked-up (Withdraw a n) b asks is P = let z : _≡_ {A = ℕ} 0 1 = cc in absurd (omega arith)
+  looked-up (Look a) b asks is P = let e : b ≡ a = cc in as-call (ap (λ k. look (bits 32 k)) e) P
+  looked-up Bad b asks is P = let z : _≡_ {A = ℕ} 0 1 = cc in absurd (omega arith)
+
+pub nothing-done : (table cache : List ℕ) (t : Tallies) {x : Asked} (line : Line) → Asks line x → x ≡ asked.Nothing → LineAnswered table cache table cache t line (record { said = said.Bad; tallies = t })
+nothing-done table cache t (Announce a n hop) asks is = let z : _≡_ {A = ℕ} 0 1 = cc in absurd (omega arith)
+nothing-done table cache t (Withdraw a n) asks is = let z : _≡_ {A = ℕ} 0 1 = cc in absurd (omega arith)
+nothing-done table cache t (Look a) asks is = let z : _≡_ {A = ℕ} 0 1 = cc in absurd (omega arith)
+nothing-done table cache t Bad asks is = (refl, refl, refl)
 
 -- the line that was read
 pub as-read : (table cache table′ cache′ : List ℕ) (t : Tallies) {line k : Line} (r : Answered) → line ≡ k → LineAnswered table cache table′ cache′ t line r → LineAnswered table cache table′ cache′ t k r
 as-read table cache table′ cache′ t r is A = subst (λ l. LineAnswered table cache table′ cache′ t l r) is A
-
-pub nothing-done : (table cache : List ℕ) (t : Tallies) {line : Line} → line ≡ Bad → LineAnswered table cache table cache t line (record { said = said.Bad; tallies = t })
-nothing-done table cache t is = subst (λ l. LineAnswered table cache table cache t l (record { said = said.Bad; tallies = t })) (sym is) (refl, refl, refl)

@@ -9,6 +9,7 @@ use Rattle.sizes.specs.Sizes.{tableNeed, cacheNeed}
 use Rattle.sizes.specs.BothStores.{Fixed}
 use Rattle.prefix.specs.Bits.{bits}
 use Rattle.prefix.specs.Prefix.{trimmed}
+use Rattle.prefix.specs.Addresses.{ipv4Bits}
 use Rattle.tallies.specs.declared.Tallies.{Tallies}
 use Rattle.model.specs.Model as model
 use Rattle.model.specs.Routes.{announce, withdraw}
@@ -21,7 +22,12 @@ use Rattle.script.specs.declared.Line.{Line}
 use Rattle.script.specs.declared.Line.the-variants.{Announce, Withdraw, Look, Bad}
 use Rattle.answers.specs.declared.Said.{Said}
 use Rattle.answers.specs.declared.Said.the-variants as said
+use Rattle.updates.specs.Updates.{actionOf, Means}
+use Rattle.updates.specs.declared.Update.{Update}
+use Rattle.updates.specs.declared.Action.the-variants as action
 use Rattle.interpreter.specs.declared.Answered.{Answered}
+use Rattle.interpreter.specs.declared.Asked.{Asked}
+use Rattle.interpreter.specs.declared.Asked.the-variants as asked
 
 -- ---- what is said
 
@@ -65,6 +71,18 @@ LineAnswered table cache table′ cache′ t (Announce a n hop) r = SoundPair ta
 LineAnswered table cache table′ cache′ t (Withdraw a n) r = SoundPair table cache → CallAnswered table cache table′ cache′ t (update (bits 32 a) n withdraw) r
 LineAnswered table cache table′ cache′ t (Look a) r = SoundPair table cache → CallAnswered table cache table′ cache′ t (look (bits 32 a)) r
 LineAnswered table cache table′ cache′ t Bad r = (r ≡ record { said = said.Bad; tallies = t }) × (table′ ≡ table) × (cache′ ≡ cache)
+
+-- ---- what a line asks of the stores
+
+-- the model's call of an update record
+abbrev pub callOf : Update → Call
+callOf u = update (ipv4Bits (u .prefix .address)) (u .prefix .length) (actionOf (u .action))
+
+abbrev pub Asks : Line → Asked → Type 0
+Asks (Announce a n hop) x = (u : Update) × (x ≡ asked.Update u) × Means a n (action.Announce hop) u
+Asks (Withdraw a n) x = (u : Update) × (x ≡ asked.Update u) × Means a n action.Withdraw u
+Asks (Look a) x = x ≡ asked.Look a
+Asks Bad x = x ≡ asked.Nothing
 
 -- ---- how the calls' answers are said
 

@@ -4,13 +4,13 @@ use lookup::Answer;
 use script::Line;
 use tallies::Tallies;
 use updates::Action;
+use updates::Update;
 ghost use mathlib.Core.Path.{_≡_};
-ghost use Rattle.model.specs.Runs.{look as looks, update as updates};
+ghost use Rattle.model.specs.Runs.{look as looks};
 ghost use Rattle.prefix.specs.Bits.{bits};
 ghost use Rattle.script.specs.Lines.{lineOf};
 ghost use Rattle.pairs.specs.Pairs.{SoundPair};
-ghost use Rattle.updates.specs.Updates.{actionOf};
-ghost use Rattle.interpreter.specs.Lines.{saidOf, saidOfUpdate, CallAnswered, LineAnswered};
+ghost use Rattle.interpreter.specs.Lines.{saidOf, saidOfUpdate, CallAnswered, LineAnswered, callOf, Asks};
 
 // What a line is answered, and the tallies after it.
 pub struct Answered {
@@ -28,28 +28,35 @@ pub fn answer_line(table: &mut [u32], cache: &mut [u32], t: Tallies, line: &[u8]
 fn answer_call(table: &mut [u32], cache: &mut [u32], t: Tallies, line: Line) -> Answered
     ensures { λ r. ⌜ LineAnswered (now (table .entry)) (now (cache .entry)) (now (table .exit)) (now (cache .exit)) t line r ⌝ }
 {
-    match line {
-        Line::Announce(address, length, hop) => update(
-            table,
-            cache,
-            t,
-            address,
-            length,
-            Action::Announce(hop),
-        ),
-        Line::Withdraw(address, length) => update(
-            table,
-            cache,
-            t,
-            address,
-            length,
-            Action::Withdraw,
-        ),
-        Line::Look(address) => look_up(table, cache, t, address),
-        Line::Bad => Answered {
+    match asked_by(line) {
+        Asked::Update(u) => update(table, cache, t, u),
+        Asked::Look(address) => look_up(table, cache, t, address),
+        Asked::Nothing => Answered {
             said: Said::Bad,
             tallies: t,
         },
+    }
+}
+
+// What a line asks of the stores. Announcements and withdrawals are one call, which then stands in one place.
+enum Asked {
+    Update(Update),
+    Look(u32),
+    Nothing,
+}
+
+fn asked_by(line: Line) -> Asked
+    ensures { λ r. ⌜ Asks line r ⌝ }
+{
+    match line {
+        Line::Announce(address, length, hop) => {
+            Asked::Update(updates::update_of(address, length, Action::Announce(hop)))
+        }
+        Line::Withdraw(address, length) => {
+            Asked::Update(updates::update_of(address, length, Action::Withdraw))
+        }
+        Line::Look(address) => Asked::Look(address),
+        Line::Bad => Asked::Nothing,
     }
 }
 
@@ -76,18 +83,9 @@ fn said_of(answer: Answer) -> Said
     }
 }
 
-// An update of the first `length` bits of an address.
-fn update(
-    table: &mut [u32],
-    cache: &mut [u32],
-    t: Tallies,
-    address: u32,
-    length: u32,
-    action: Action,
-) -> Answered
-    ensures { λ r. ⌜ (SoundPair (now (table .entry)) (now (cache .entry)) → CallAnswered (now (table .entry)) (now (cache .entry)) (now (table .exit)) (now (cache .exit)) t (updates (bits 32 address) length (actionOf action)) r) ⌝ }
+fn update(table: &mut [u32], cache: &mut [u32], t: Tallies, u: Update) -> Answered
+    ensures { λ r. ⌜ (SoundPair (now (table .entry)) (now (cache .entry)) → CallAnswered (now (table .entry)) (now (cache .entry)) (now (table .exit)) (now (cache .exit)) t (callOf u) r) ⌝ }
 {
-    let u = updates::update_of(address, length, action);
     let updated = refresh::update_pair(table, cache, t, u);
     let tallies = updated.tallies;
     Answered {

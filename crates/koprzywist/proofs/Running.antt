@@ -1,6 +1,5 @@
 -- From sound stores the lines of a block do what the model's calls do, one after the other. Assumes nothing.
 use mathlib.Core.Path.{_≡_, sym, ap, _∙_, subst}
-use mathlib.Core.Bool.{cond}
 use mathlib.Core.List.{List}
 use mathlib.Core.Option.{some}
 use Prim.Native.Nat.{ℕ, _-_}
@@ -26,15 +25,15 @@ use Rattle.interpreter.specs.Lines.{meant, CallAnswered, LineAnswered}
 use Rattle.interpreter.specs.declared.Answered.{Answered}
 use Rattle.fib.specs.Runs.{Stores, Follows}
 use Rattle.fib.proofs.Runs.{reached-alike}
-use Rattle.koprzywist.specs.Blocks.{Lines, at-start, and-line}
-use Rattle.koprzywist.specs.declared.Progress.{Progress}
+use Rattle.koprzywist.specs.Blocks.{Lines, at-start, and-line, and-written}
+use Rattle.koprzywist.specs.declared.Reached.{Reached}
 
 abbrev stores : List ℕ → List ℕ → Tallies → Stores
 stores table cache tallies = record { table = table; cache = cache; tallies = tallies }
 
--- the line from a place of a block to its line feed; the rest of one that is too long is bad
-abbrev lineAt : List ℕ → ℕ → ℕ → Progress → Line
-lineAt block at feed p = cond (p .long) line.Bad (lineOf (take (feed - at) (drop at block)))
+-- the line from a place of a block to its line feed
+abbrev lineAt : List ℕ → ℕ → ℕ → Line
+lineAt block at feed = lineOf (take (feed - at) (drop at block))
 
 -- ---- the model's state after a line, and after the lines of a block
 
@@ -44,9 +43,10 @@ lineState L s (line.Withdraw a n) = step L s (update (bits 32 a) n withdraw) .st
 lineState L s (line.Look a) = step L s (look (bits 32 a)) .state
 lineState L s line.Bad = s
 
-unfoldable pub linesState : {block table cache out : List ℕ} {r : Progress} {at : ℕ} {t c o : List ℕ} {p : Progress} → Limits → State → Lines block table cache out r at t c o p → State
+unfoldable pub linesState : {block table cache out : List ℕ} {r : Reached} {t c o : List ℕ} {p : Reached} → Limits → State → Lines block table cache out r t c o p → State
 linesState L s at-start = s
-linesState {block} L s (and-line {at = at} {p = p} K S) = lineState L (linesState L s K) (lineAt block at (S .step .0) p)
+linesState {block} L s (and-line {p = p} K S) = lineState L (linesState L s K) (lineAt block (p .at) (S .step .0))
+linesState L s (and-written K) = linesState L s K
 
 -- what is said of a line is what the model answers; the last is so of every line
 unfoldable pub LineSaid : Limits → State → Line → Said → Type 0
@@ -55,10 +55,11 @@ LineSaid L s (line.Withdraw a n) x = meant x ≡ some (step L s (update (bits 32
 LineSaid L s (line.Look a) x = meant x ≡ some (step L s (look (bits 32 a)) .answer)
 LineSaid L s line.Bad x = x ≡ said.Bad
 
-unfoldable pub LinesSaid : {block table cache out : List ℕ} {r : Progress} {at : ℕ} {t c o : List ℕ} {p : Progress} → Limits → State → Lines block table cache out r at t c o p → Type 0
+unfoldable pub LinesSaid : {block table cache out : List ℕ} {r : Reached} {t c o : List ℕ} {p : Reached} → Limits → State → Lines block table cache out r t c o p → Type 0
 LinesSaid L s at-start = Unit {0}
-LinesSaid {block} L s (and-line {at = at} {p = p} K S) =
-    LinesSaid L s K × LineSaid L (linesState L s K) (lineAt block at (S .step .0) p) (S .step .3 .answered .said)
+LinesSaid {block} L s (and-line {p = p} K S) =
+    LinesSaid L s K × LineSaid L (linesState L s K) (lineAt block (p .at) (S .step .0)) (S .step .4 .answered .said)
+LinesSaid L s (and-written K) = LinesSaid L s K
 
 -- ---- one line
 
@@ -101,23 +102,25 @@ module _ {L : Limits} {table cache : List ℕ} (table′ cache′ : List ℕ) {t
 -- ---- the lines of a block
 
 -- the stores and the tallies are those of the model's run of the lines
-pub lines-follow : {L : Limits} {block table cache out : List ℕ} {r : Progress} {at : ℕ} {t c o : List ℕ} {p : Progress} {z : State}
-    (K : Lines block table cache out r at t c o p)
+pub lines-follow : {L : Limits} {block table cache out : List ℕ} {r : Reached} {t c o : List ℕ} {p : Reached} {z : State}
+    (K : Lines block table cache out r t c o p)
     → Follows L (stores table cache (r .tallies)) z
     → Follows L (stores t c (p .tallies)) (linesState L z K)
 unfolding linesState
 lines-follow at-start F = F
-lines-follow {L} {block} {z = z} (and-line {at = at} {t′ = t′} {c′ = c′} {p = p} K S) F =
-    let T = S .step .3 in
-    subst (λ k. Follows L (stores t′ c′ k) (lineState L (linesState L z K) (lineAt block at (S .step .0) p))) (sym (T .are-tallies))
-    (line-follows t′ c′ (lineAt block at (S .step .0) p) (T .answered) (T .answer) (lines-follow K F))
+lines-follow {L} {block} {z = z} (and-line {t′ = t′} {c′ = c′} {p = p} K S) F =
+    let T = S .step .4 in
+    subst (λ k. Follows L (stores t′ c′ k) (lineState L (linesState L z K) (lineAt block (p .at) (S .step .0)))) (sym (T .are-tallies))
+    (line-follows t′ c′ (lineAt block (p .at) (S .step .0)) (T .answered) (T .answer) (lines-follow K F))
+lines-follow (and-written K) F = lines-follow K F
 
 -- and so are the answers
-pub lines-say : {L : Limits} {block table cache out : List ℕ} {r : Progress} {at : ℕ} {t c o : List ℕ} {p : Progress} {z : State}
-    (K : Lines block table cache out r at t c o p)
+pub lines-say : {L : Limits} {block table cache out : List ℕ} {r : Reached} {t c o : List ℕ} {p : Reached} {z : State}
+    (K : Lines block table cache out r t c o p)
     → Follows L (stores table cache (r .tallies)) z
     → LinesSaid L z K
 unfolding LinesSaid
 lines-say at-start F = tt
-lines-say {L} {block} (and-line {at = at} {t′ = t′} {c′ = c′} {p = p} K S) F =
-    (lines-say K F, line-says t′ c′ (lineAt block at (S .step .0) p) (S .step .3 .answered) (S .step .3 .answer) (lines-follow K F))
+lines-say {L} {block} (and-line {t′ = t′} {c′ = c′} {p = p} K S) F =
+    (lines-say K F, line-says t′ c′ (lineAt block (p .at) (S .step .0)) (S .step .4 .answered) (S .step .4 .answer) (lines-follow K F))
+lines-say (and-written K) F = lines-say K F

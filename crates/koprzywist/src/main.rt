@@ -8,12 +8,9 @@ use script::Next;
 use tallies::Tallies;
 ghost use Prim.Native.Nat.{_+_};
 ghost use mathlib.Core.Path.{_≡_};
-ghost use lib.ListN.{length};
 ghost use lib.Dec.{ltb};
 ghost use Rattle.answers.specs.Answers.{room};
-ghost use Rattle.script.specs.Blocks.{feedAt};
-ghost use Rattle.script.specs.declared.Next.the-variants.{None};
-ghost use Rattle.koprzywist.specs.Blocks.{Waits, Roomy, Told, Taken, Stepped, Lines};
+ghost use Rattle.koprzywist.specs.Blocks.{Stepped, Lines, Stopped, BlockAnswered};
 
 const TABLE_LIMIT: u32 = 512;
 
@@ -21,137 +18,135 @@ const CACHE_LIMIT: u32 = 3;
 
 const LONGEST_LINE: usize = 64;
 
+// No answer is longer.
+const ROOM: usize = 64;
+
 // ---- a block of lines
 
-// Where the run stands: the tallies, whether a line that is too long is being passed over, how many bytes of the output
-// wait to be written, and whether all of it could be.
-struct Progress {
-    tallies: Tallies,
-    long: bool,
+// How far a block was read, and what its lines left: the tallies, and how many bytes of the output wait to be written.
+struct Reached {
+    at: usize,
     waiting: usize,
-    ok: bool,
+    tallies: Tallies,
+}
+
+// What a step through a block found: a line that was answered, or no whole line that the output has room for.
+enum Step {
+    Line(Reached),
+    End,
 }
 
 // Whether there is no room for another line.
 fn is_full(size: usize, waiting: usize) -> bool
     ensures { λ r. ⌜ r ≡ ltb size (waiting + room) ⌝ }
 {
-    if size < LONGEST_LINE {
+    if size < ROOM {
         return true;
     }
-    size - LONGEST_LINE < waiting
+    size - ROOM < waiting
 }
 
-// After a write that failed nothing more is written: what was printed has no gap.
-fn flush(out: &[u8], r: Progress) -> Progress
-    ensures { λ p. ⌜ Waits r p 0 ⌝ }
-{
-    let n = r.waiting;
-    let mut p = r;
-    p.waiting = 0;
-    if !r.ok {
-        return p;
-    }
-    if out.len() < n {
-        return p;
-    }
-    p.ok = io::write_all(STDOUT_FILENO, &out[..n]);
-    p
-}
-
-// What waits is written once there is no room for another line.
-fn make_room(out: &[u8], r: Progress) -> Progress
-    ensures { λ p. ⌜ Roomy (length (now (out .entry))) r p ⌝ }
+fn next_line(table: &mut [u32], cache: &mut [u32], out: &mut [u8], block: &[u8], r: Reached) -> Step
+    ensures { λ s. ⌜ Stepped (now (block .entry)) (now (table .entry)) (now (cache .entry)) (now (out .entry)) (now (table .exit)) (now (cache .exit)) (now (out .exit)) r s ⌝ }
 {
     if is_full(out.len(), r.waiting) {
-        return flush(out, r);
+        return Step::End;
     }
-    r
-}
-
-fn say(out: &mut [u8], r: Progress, said: Said) -> Progress
-    ensures { λ p. ⌜ Told (now (out .entry)) (now (out .exit)) said r p ⌝ }
-{
-    let mut p = make_room(out, r);
-    let waiting = answers::write_line(out, p.waiting, said);
-    p.waiting = waiting;
-    p
-}
-
-// One whole line, without its line feed; the rest of one that is too long is `bad` once.
-fn whole_line(
-    table: &mut [u32],
-    cache: &mut [u32],
-    out: &mut [u8],
-    line: &[u8],
-    r: Progress,
-) -> Progress
-    ensures { λ p. ⌜ Taken (now (table .entry)) (now (cache .entry)) (now (out .entry)) (now (table .exit)) (now (cache .exit)) (now (out .exit)) (now (line .entry)) r p ⌝ }
-{
-    let mut p = r;
-    if r.long {
-        p.long = false;
-        return say(out, p, Said::Bad);
-    }
-    let before = r.tallies;
-    let a = interpreter::answer_line(table, cache, before, line);
-    let after = a.tallies;
-    let said = a.said;
-    p.tallies = after;
-    say(out, p, said)
-}
-
-// What a step through a block found: a line that was answered, and where the next begins; or no more whole lines.
-enum Step {
-    Line(usize, Progress),
-    End,
-}
-
-fn next_line(
-    table: &mut [u32],
-    cache: &mut [u32],
-    out: &mut [u8],
-    block: &[u8],
-    at: usize,
-    r: Progress,
-) -> Step
-    ensures { λ s. ⌜ Stepped (now (block .entry)) (now (table .entry)) (now (cache .entry)) (now (out .entry)) (now (table .exit)) (now (cache .exit)) (now (out .exit)) at r s ⌝ }
-{
+    let at = r.at;
     let Next::At(feed) = script::next_feed(block, at) else {
         return Step::End;
     };
-    let p = whole_line(table, cache, out, &block[at..feed], r);
-    Step::Line(feed + 1, p)
+    let t = r.tallies;
+    let a = interpreter::answer_line(table, cache, t, &block[at..feed]);
+    let said = a.said;
+    let waiting = answers::write_line(out, r.waiting, said);
+    let tallies = a.tallies;
+    let next = feed + 1;
+    Step::Line(Reached {
+        at: next,
+        waiting,
+        tallies,
+    })
 }
 
-// How far a block was read, with what its lines left.
-struct Reached {
-    at: usize,
-    progress: Progress,
-}
-
-// Every whole line of a block.
+// The whole lines of a block from a place on, as many as the output has room for.
 fn whole_lines(
     table: &mut [u32],
     cache: &mut [u32],
     out: &mut [u8],
     block: &[u8],
-    r: Progress,
+    start: Reached,
 ) -> Reached
-    ensures { λ e. ⌜ Lines (now (block .entry)) (now (table .entry)) (now (cache .entry)) (now (out .entry)) r (e .at) (now (table .exit)) (now (cache .exit)) (now (out .exit)) (e .progress) × (feedAt (now (block .entry)) (e .at) ≡ None) ⌝ }
+    ensures { λ r. ⌜ Lines (now (block .entry)) (now (table .entry)) (now (cache .entry)) (now (out .entry)) start (now (table .exit)) (now (cache .exit)) (now (out .exit)) r × Stopped (now (block .entry)) (now (out .entry)) r ⌝ }
 {
-    let mut at: usize = 0;
-    let mut p = r;
+    let mut r = start;
     let end = loop {
-        match next_line(table, cache, out, block, at, p) {
-            Step::Line(next, after) => {
-                at = next;
-                p = after;
+        match next_line(table, cache, out, block, r) {
+            Step::Line(next) => {
+                r = next;
             }
             Step::End => {
-                break Reached { at, progress: p };
+                break r;
             }
         }
+    };
+    end
+}
+
+// Writes the first n bytes, and answers whether all of them could be written.
+fn write_out(out: &[u8], n: usize) -> bool {
+    if out.len() < n {
+        return false;
+    }
+    io::write_all(STDOUT_FILENO, &out[..n])
+}
+
+// A block that was answered: where its whole lines end, the tallies after them, and whether all answers could be written.
+struct Written {
+    end: usize,
+    tallies: Tallies,
+    ok: bool,
+}
+
+// Every whole line of a block, as many at a time as the output has room for. After a write that failed nothing more is
+// answered or written: what was printed has no gap.
+fn answer_block(
+    table: &mut [u32],
+    cache: &mut [u32],
+    out: &mut [u8],
+    block: &[u8],
+    t: Tallies,
+) -> Written
+    ensures { λ w. ⌜ BlockAnswered (now (block .entry)) (now (table .entry)) (now (cache .entry)) (now (out .entry)) (now (table .exit)) (now (cache .exit)) (now (out .exit)) t w ⌝ }
+{
+    let mut at: usize = 0;
+    let mut tallies = t;
+    let end = loop {
+        let start = Reached {
+            at,
+            waiting: 0,
+            tallies,
+        };
+        let r = whole_lines(table, cache, out, block, start);
+        let ok = write_out(out, r.waiting);
+        let end = r.at;
+        let after = r.tallies;
+        if !ok {
+            break Written {
+                end,
+                tallies: after,
+                ok,
+            };
+        }
+        if end <= at {
+            break Written {
+                end,
+                tallies: after,
+                ok,
+            };
+        }
+        at = end;
+        tallies = after;
     };
     end
 }
@@ -161,33 +156,22 @@ fn whole_lines(
 // How many bytes at the start of the buffer belong to a line that has not ended, and what the lines before it left.
 struct Held {
     bytes: usize,
-    progress: Progress,
+    tallies: Tallies,
+    ok: bool,
 }
 
-// The rest of a block, which has no line feed, goes to the start of the buffer, unless its line is too long already.
-fn keep_rest(input: &mut [u8], n: usize, at: usize, r: Progress) -> Held {
-    let mut p = r;
+// The rest of a block, which has no line feed, goes to the start of the buffer. Of a line that is too long already no more
+// is kept than makes it so.
+fn keep_rest(input: &mut [u8], n: usize, at: usize) -> usize {
     if n < at {
-        return Held {
-            bytes: 0,
-            progress: p,
-        };
+        return 0;
     }
-    let rest = n - at;
+    let mut rest = n - at;
     if LONGEST_LINE < rest {
-        p.long = true;
-    }
-    if p.long {
-        return Held {
-            bytes: 0,
-            progress: p,
-        };
+        rest = LONGEST_LINE + 1;
     }
     move_down(input, at, rest);
-    Held {
-        bytes: rest,
-        progress: p,
-    }
+    rest
 }
 
 // The n bytes from a place on go to the start.
@@ -228,8 +212,7 @@ fn next_block(
     input: &mut [u8],
     h: Held,
 ) -> More {
-    let before = h.progress;
-    if !before.ok {
+    if !h.ok {
         return More::No;
     }
     let held = h.bytes;
@@ -244,31 +227,51 @@ fn next_block(
         return More::No;
     }
     let n = held + got;
-    let r = whole_lines(table, cache, out, &input[..n], before);
-    let after = r.progress;
-    More::Yes(keep_rest(input, n, r.at, after))
+    let before = h.tallies;
+    let w = answer_block(table, cache, out, &input[..n], before);
+    let bytes = keep_rest(input, n, w.end);
+    let tallies = w.tallies;
+    More::Yes(Held {
+        bytes,
+        tallies,
+        ok: w.ok,
+    })
 }
 
-// The last line may lack its line feed; an empty rest is no line.
+// A line feed goes behind the first n bytes.
+fn end_line(input: &mut [u8], n: usize) {
+    if n < input.len() {
+        input[n] = b'\n';
+    }
+}
+
+// The last line may lack its line feed, and is given it; an empty rest is no line.
 fn last_line(
     table: &mut [u32],
     cache: &mut [u32],
     out: &mut [u8],
-    input: &[u8],
+    input: &mut [u8],
     h: Held,
-) -> Progress {
+) -> Held {
+    if !h.ok {
+        return h;
+    }
     let n = h.bytes;
-    let p = h.progress;
-    if input.len() < n {
-        return p;
-    }
-    if p.long {
-        return whole_line(table, cache, out, &input[..n], p);
-    }
     if n == 0 {
-        return p;
+        return h;
     }
-    whole_line(table, cache, out, &input[..n], p)
+    end_line(input, n);
+    if input.len() <= n {
+        return h;
+    }
+    let before = h.tallies;
+    let w = answer_block(table, cache, out, &input[..n + 1], before);
+    let tallies = w.tallies;
+    Held {
+        bytes: 0,
+        tallies,
+        ok: w.ok,
+    }
 }
 
 // To the end of the input, which no run of so many blocks outlasts.
@@ -307,16 +310,14 @@ fn main() {
     let mut out = io::large_buffer();
     let start = Held {
         bytes: 0,
-        progress: Progress {
-            tallies: tallies::zero(),
-            long: false,
-            waiting: 0,
-            ok: true,
-        },
+        tallies: tallies::zero(),
+        ok: true,
     };
     let h = all_blocks(&mut table, &mut cache, &mut out, &mut input, start);
-    let p = last_line(&mut table, &mut cache, &mut out, &input, h);
-    let t = p.tallies;
-    let q = say(&mut out, p, Said::Tallies(t.hits, t.misses, t.drops));
-    flush(&out, q);
+    let last = last_line(&mut table, &mut cache, &mut out, &mut input, h);
+    if last.ok {
+        let t = last.tallies;
+        let n = answers::write_line(&mut out, 0, Said::Tallies(t.hits, t.misses, t.drops));
+        write_out(&out, n);
+    }
 }

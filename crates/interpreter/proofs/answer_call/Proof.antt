@@ -1,23 +1,20 @@
 -- `interpreter::answer_call` meets its contract. Assumes nothing.
 use borrow.Author.Needs.{needs}
-use Rattle.interpreter.proofs.Answering.{announced, withdrawn, looked-up, nothing-done}
+use Rattle.interpreter.proofs.Answering.{updated, looked-up, nothing-done}
 use Rattle.interpreter.proofs.answer_call.Statement.{statement}
 use Rattle.interpreter.proofs.answer_call.Tie as tie
 
-enum-known-line : tie.Need-enum-known-line
-enum-known-line c = search needs
+asked-by-requires : tie.Need-asked-by-requires
+asked-by-requires c κs = search needs
+
+enum-known-u : tie.Need-enum-known-u
+enum-known-u c = search needs
 
 update-requires : tie.Need-update-requires
 update-requires c κs = search needs
 
-enum-known-line-2 : tie.Need-enum-known-line-2
-enum-known-line-2 c = search needs
-
-update-requires-2 : tie.Need-update-requires-2
-update-requires-2 c κs = search needs
-
-enum-known-line-3 : tie.Need-enum-known-line-3
-enum-known-line-3 c = search needs
+enum-known-address : tie.Need-enum-known-address
+enum-known-address c = search needs
 
 look-up-requires : tie.Need-look-up-requires
 look-up-requires c κs = search needs
@@ -32,7 +29,7 @@ same-length-2 : tie.Need-same-length-2
 same-length-2 c = search needs
 
 returns : tie.Need-returns
-returns c = search (needs, announced)
+returns c = search (needs, updated)
 
 same-length-3 : tie.Need-same-length-3
 same-length-3 c = search needs
@@ -41,29 +38,19 @@ same-length-4 : tie.Need-same-length-4
 same-length-4 c = search needs
 
 returns-2 : tie.Need-returns-2
-returns-2 c = search (needs, withdrawn)
-
-same-length-5 : tie.Need-same-length-5
-same-length-5 c = search needs
-
-same-length-6 : tie.Need-same-length-6
-same-length-6 c = search needs
+returns-2 c = search (needs, looked-up)
 
 returns-3 : tie.Need-returns-3
-returns-3 c = search (needs, looked-up)
-
-returns-4 : tie.Need-returns-4
-returns-4 c = search (needs, nothing-done)
+returns-3 c = search (needs, nothing-done)
 
 pub answer-call-spec : {M : Type 1} → statement M
 answer-call-spec =
     tie.close
     (tie.spec
-    enum-known-line
+    asked-by-requires
+    enum-known-u
     update-requires
-    enum-known-line-2
-    update-requires-2
-    enum-known-line-3
+    enum-known-address
     look-up-requires
     enum-told
     same-length
@@ -72,7 +59,4 @@ answer-call-spec =
     same-length-3
     same-length-4
     returns-2
-    same-length-5
-    same-length-6
-    returns-3
-    returns-4)
+    returns-3)

@@ -4,9 +4,6 @@ use Rattle.interpreter.proofs.Answering.{update-answered}
 use Rattle.interpreter.proofs.update.Statement.{statement}
 use Rattle.interpreter.proofs.update.Tie as tie
 
-update-of-requires : tie.Need-update-of-requires
-update-of-requires c κs = search needs
-
 update-pair-requires : tie.Need-update-pair-requires
 update-pair-requires c κs = search needs
 
@@ -24,11 +21,4 @@ returns c = search (needs, update-answered)
 
 pub update-spec : {M : Type 1} → statement M
 update-spec =
-    tie.close
-    (tie.spec
-    update-of-requires
-    update-pair-requires
-    said-of-update-requires
-    same-length
-    same-length-2
-    returns)
+    tie.close (tie.spec update-pair-requires said-of-update-requires same-length same-length-2 returns)

@@ -1,6 +1,6 @@
 -- `koprzywist::is_full` meets its contract. Assumes nothing.
 use borrow.Author.Needs.{needs}
-use Rattle.koprzywist.proofs.Telling.{full-small, full-else}
+use Rattle.koprzywist.proofs.Stepping.{full-small, full-else}
 use Rattle.koprzywist.proofs.is_full.Statement.{statement}
 use Rattle.koprzywist.proofs.is_full.Tie as tie
 

@@ -35,14 +35,14 @@ returns-4 c = search needs
 add-n : tie.Need-add-n
 add-n c = search needs
 
-slice-reshare-prefix-whole-lines : tie.Need-slice-reshare-prefix-whole-lines
-slice-reshare-prefix-whole-lines c = search needs
+slice-reshare-prefix-answer-block : tie.Need-slice-reshare-prefix-answer-block
+slice-reshare-prefix-answer-block c = search needs
 
-slice-aggregate-whole-lines : tie.Need-slice-aggregate-whole-lines
-slice-aggregate-whole-lines c = taken _ _ (omega arith)
+slice-aggregate-answer-block : tie.Need-slice-aggregate-answer-block
+slice-aggregate-answer-block c = taken _ _ (omega arith)
 
-whole-lines-requires : tie.Need-whole-lines-requires
-whole-lines-requires c κs = search needs
+answer-block-requires : tie.Need-answer-block-requires
+answer-block-requires c κs = search needs
 
 keep-rest-requires : tie.Need-keep-rest-requires
 keep-rest-requires c κs = search needs
@@ -76,9 +76,9 @@ next-block-spec =
     same-length-3
     returns-4
     add-n
-    slice-reshare-prefix-whole-lines
-    slice-aggregate-whole-lines
-    whole-lines-requires
+    slice-reshare-prefix-answer-block
+    slice-aggregate-answer-block
+    answer-block-requires
     keep-rest-requires
     same-length-4
     same-length-5

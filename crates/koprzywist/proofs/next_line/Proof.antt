@@ -1,9 +1,15 @@
 -- `koprzywist::next_line` meets its contract. Assumes nothing.
 use borrow.Author.Needs.{needs}
 use Rattle.script.proofs.Callers.{feed-after}
-use Rattle.koprzywist.proofs.Stepping.{feed-within, feed-fits, stepped-end, stepped-line}
+use Rattle.koprzywist.proofs.Stepping.{feed-within, feed-fits, stepped-full, stepped-end, stepped-line}
 use Rattle.koprzywist.proofs.next_line.Statement.{statement}
 use Rattle.koprzywist.proofs.next_line.Tie as tie
+
+is-full-requires : tie.Need-is-full-requires
+is-full-requires c κs = search needs
+
+returns : tie.Need-returns
+returns c = search (needs, stepped-full)
 
 next-feed-requires : tie.Need-next-feed-requires
 next-feed-requires c κs = search needs
@@ -14,23 +20,26 @@ enum-known-feed c = search needs
 enum-told : tie.Need-enum-told
 enum-told c = search needs
 
-returns : tie.Need-returns
-returns c = search (needs, stepped-end)
+returns-2 : tie.Need-returns-2
+returns-2 c = search (needs, stepped-end)
 
-sub-whole-line : tie.Need-sub-whole-line
-sub-whole-line c = search (needs, feed-after)
+sub-answer-line : tie.Need-sub-answer-line
+sub-answer-line c = search (needs, feed-after)
 
-part-whole-line-start : tie.Need-part-whole-line-start
-part-whole-line-start c = search (needs, feed-after)
+part-answer-line-start : tie.Need-part-answer-line-start
+part-answer-line-start c = search (needs, feed-after)
 
-part-whole-line-end : tie.Need-part-whole-line-end
-part-whole-line-end c = search (needs, feed-within)
+part-answer-line-end : tie.Need-part-answer-line-end
+part-answer-line-end c = search (needs, feed-within)
 
-whole-line-requires : tie.Need-whole-line-requires
-whole-line-requires c κs = search needs
+answer-line-requires : tie.Need-answer-line-requires
+answer-line-requires c κs = search needs
 
-add-t17 : tie.Need-add-t17
-add-t17 c = search (needs, feed-fits)
+write-line-requires : tie.Need-write-line-requires
+write-line-requires c κs = search needs
+
+add-next : tie.Need-add-next
+add-next c = search (needs, feed-fits)
 
 same-length : tie.Need-same-length
 same-length c = search needs
@@ -41,23 +50,26 @@ same-length-2 c = search needs
 same-length-3 : tie.Need-same-length-3
 same-length-3 c = search needs
 
-returns-2 : tie.Need-returns-2
-returns-2 c = search (needs, stepped-line)
+returns-3 : tie.Need-returns-3
+returns-3 c = search (needs, stepped-line)
 
 pub next-line-spec : {M : Type 1} → statement M
 next-line-spec =
     tie.close
     (tie.spec
+    is-full-requires
+    returns
     next-feed-requires
     enum-known-feed
     enum-told
-    returns
-    sub-whole-line
-    part-whole-line-start
-    part-whole-line-end
-    whole-line-requires
-    add-t17
+    returns-2
+    sub-answer-line
+    part-answer-line-start
+    part-answer-line-end
+    answer-line-requires
+    write-line-requires
+    add-next
     same-length
     same-length-2
     same-length-3
-    returns-2)
+    returns-3)
