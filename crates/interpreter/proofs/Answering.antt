@@ -151,7 +151,3 @@ nothing-done table cache t (Announce a n hop) asks is = let z : _≡_ {A = ℕ} 
 nothing-done table cache t (Withdraw a n) asks is = let z : _≡_ {A = ℕ} 0 1 = cc in absurd (omega arith)
 nothing-done table cache t (Look a) asks is = let z : _≡_ {A = ℕ} 0 1 = cc in absurd (omega arith)
 nothing-done table cache t Bad asks is = (refl, refl, refl)
-
--- the line that was read
-pub as-read : (table cache table′ cache′ : List ℕ) (t : Tallies) {line k : Line} (r : Answered) → line ≡ k → LineAnswered table cache table′ cache′ t line r → LineAnswered table cache table′ cache′ t k r
-as-read table cache table′ cache′ t r is A = subst (λ l. LineAnswered table cache table′ cache′ t l r) is A

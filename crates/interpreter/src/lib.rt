@@ -1,4 +1,4 @@
-// One line of a script: it is read, its call is made on the two stores, and what it answers is said.
+// One line of a script: its call is made on the two stores, and what it answers is said.
 use answers::Said;
 use lookup::Answer;
 use script::Line;
@@ -8,7 +8,6 @@ use updates::Update;
 ghost use mathlib.Core.Path.{_≡_};
 ghost use Rattle.model.specs.Runs.{look as looks};
 ghost use Rattle.prefix.specs.Bits.{bits};
-ghost use Rattle.script.specs.Lines.{lineOf};
 ghost use Rattle.pairs.specs.Pairs.{SoundPair};
 ghost use Rattle.interpreter.specs.Lines.{saidOf, saidOfUpdate, CallAnswered, LineAnswered, callOf, Asks};
 
@@ -18,14 +17,7 @@ pub struct Answered {
     pub tallies: Tallies,
 }
 
-// The whole line is read before any call.
-pub fn answer_line(table: &mut [u32], cache: &mut [u32], t: Tallies, line: &[u8]) -> Answered
-    ensures { λ r. ⌜ LineAnswered (now (table .entry)) (now (cache .entry)) (now (table .exit)) (now (cache .exit)) t (lineOf (now (line .entry))) r ⌝ }
-{
-    answer_call(table, cache, t, script::read_line(line))
-}
-
-fn answer_call(table: &mut [u32], cache: &mut [u32], t: Tallies, line: Line) -> Answered
+pub fn answer_line(table: &mut [u32], cache: &mut [u32], t: Tallies, line: Line) -> Answered
     ensures { λ r. ⌜ LineAnswered (now (table .entry)) (now (cache .entry)) (now (table .exit)) (now (cache .exit)) t line r ⌝ }
 {
     match asked_by(line) {

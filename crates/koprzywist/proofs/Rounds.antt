@@ -1,16 +1,15 @@
 -- The lines of a block in rounds: each is answered as far as the output has room, and then written. Assumes nothing.
-use mathlib.Core.Path.{_≡_, refl, sym, _∙_}
+use mathlib.Core.Path.{_≡_, sym}
 use mathlib.Core.Bool.{Bool, true, false, not, true≢false}
 use mathlib.Core.List.{List}
 use mathlib.Core.Logic.{_⊎_, inl, inr}
-use Prim.Native.Nat.{ℕ, _+_, _-_, _<_, _≤_}
+use Prim.Native.Nat.{ℕ, _-_, _<_, _≤_}
 use native.Mathlib.Omega.{arith}
 use lib.ListN.{length}
 use Rattle.tallies.specs.declared.Tallies.{Tallies}
 use Rattle.answers.specs.Answers.{room}
-use Rattle.script.specs.Blocks.{feedAt}
-use Rattle.script.specs.declared.Next.the-variants.{At, None}
-use Rattle.script.proofs.Callers.{feed-after, feed-inside}
+use Rattle.script.specs.Blocks.{lineEnd}
+use Rattle.script.proofs.Callers.{ends-after}
 use Rattle.koprzywist.specs.Blocks.{from, Stopped, Lines, at-start, and-line, and-written, BlockAnswered}
 use Rattle.koprzywist.specs.declared.Reached.{Reached}
 
@@ -27,16 +26,16 @@ module _ {block table cache out : List ℕ} {r : Reached} where
   -- no line ends behind the block
   pub lines-inside : {t c o : List ℕ} {p : Reached} → Lines block table cache out r t c o p → r .at ≤ length block → p .at ≤ length block
   lines-inside at-start h = h
-  lines-inside (and-line {p = p} K S) h = omega (arith, S .step .2, feed-inside block (p .at) (S .step .0) (At (S .step .0)) (sym (S .step .1)) refl)
+  lines-inside (and-line {p = p} K S) h = omega (arith, S .step .0, S .step .1)
   lines-inside (and-written K) h = lines-inside K h
 
   -- only a line puts something behind what waits
   pub lines-onward : {t c o : List ℕ} {p : Reached} → Lines block table cache out r t c o p → (r .at ≤ p .at) × ((p .waiting ≤ r .waiting) ⊎ (r .at < p .at))
   lines-onward at-start = (omega arith, inl (omega arith))
   lines-onward (and-line {p = p} K S) =
-      let after = feed-after block (p .at) (S .step .0) (At (S .step .0)) (sym (S .step .1)) refl in
+      let after = ends-after block (p .at) in
       let further = lines-onward K .0 in
-      let next = S .step .2 in
+      let next = S .step .1 in
       (omega arith, inr (omega arith))
   lines-onward (and-written K) = (lines-onward K .0, inl (omega arith))
 
@@ -48,10 +47,10 @@ module _ {block table cache out t c o : List ℕ} (at : ℕ) (tallies : Tallies)
   round-onward h k = omega (arith, round-inside h, h, k)
 
   -- a round without a line had no line to take, where the output has room for any
-  all-taken : p .at ≤ at → room ≤ length out → feedAt block (p .at) ≡ None
+  all-taken : p .at ≤ at → room ≤ length out → length block ≤ lineEnd block (p .at)
   all-taken h size = of (round .1) (lines-onward (round .0) .1)
     where
-      of : Stopped block out p → ((p .waiting ≤ 0) ⊎ (at < p .at)) → feedAt block (p .at) ≡ None
+      of : Stopped block out p → ((p .waiting ≤ 0) ⊎ (at < p .at)) → length block ≤ lineEnd block (p .at)
       of (inl none) w = none
       of (inr full) (inl none-waits) = absurd (omega (arith, full, none-waits, size))
       of (inr full) (inr on) = absurd (omega (arith, on, h))

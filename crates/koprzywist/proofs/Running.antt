@@ -2,8 +2,7 @@
 use mathlib.Core.Path.{_≡_, sym, ap, _∙_, subst}
 use mathlib.Core.List.{List}
 use mathlib.Core.Option.{some}
-use Prim.Native.Nat.{ℕ, _-_}
-use lib.ListN.{take, drop}
+use Prim.Native.Nat.{ℕ}
 use Rattle.prefix.specs.Bits.{bits}
 use Rattle.prefix.proofs.BitLaws.{length-bits}
 use Rattle.tallies.specs.declared.Tallies.{Tallies}
@@ -16,6 +15,7 @@ use Rattle.model.proofs.SameRoutes.{step-same}
 use Rattle.pairs.specs.Pairs.{limitsOf}
 use Rattle.pairs.specs.States.{stateOf}
 use Rattle.pairs.proofs.Pairing.{legal-pair}
+use Rattle.script.specs.Blocks.{lineFrom}
 use Rattle.script.specs.Lines.{lineOf}
 use Rattle.script.specs.declared.Line.{Line}
 use Rattle.script.specs.declared.Line.the-variants as line
@@ -31,10 +31,6 @@ use Rattle.koprzywist.specs.declared.Reached.{Reached}
 abbrev stores : List ℕ → List ℕ → Tallies → Stores
 stores table cache tallies = record { table = table; cache = cache; tallies = tallies }
 
--- the line from a place of a block to its line feed
-abbrev lineAt : List ℕ → ℕ → ℕ → Line
-lineAt block at feed = lineOf (take (feed - at) (drop at block))
-
 -- ---- the model's state after a line, and after the lines of a block
 
 unfoldable pub lineState : Limits → State → Line → State
@@ -45,7 +41,7 @@ lineState L s line.Bad = s
 
 unfoldable pub linesState : {block table cache out : List ℕ} {r : Reached} {t c o : List ℕ} {p : Reached} → Limits → State → Lines block table cache out r t c o p → State
 linesState L s at-start = s
-linesState {block} L s (and-line {p = p} K S) = lineState L (linesState L s K) (lineAt block (p .at) (S .step .0))
+linesState {block} L s (and-line {p = p} K S) = lineState L (linesState L s K) (lineOf (lineFrom block (p .at)))
 linesState L s (and-written K) = linesState L s K
 
 -- what is said of a line is what the model answers; the last is so of every line
@@ -58,7 +54,7 @@ LineSaid L s line.Bad x = x ≡ said.Bad
 unfoldable pub LinesSaid : {block table cache out : List ℕ} {r : Reached} {t c o : List ℕ} {p : Reached} → Limits → State → Lines block table cache out r t c o p → Type 0
 LinesSaid L s at-start = Unit {0}
 LinesSaid {block} L s (and-line {p = p} K S) =
-    LinesSaid L s K × LineSaid L (linesState L s K) (lineAt block (p .at) (S .step .0)) (S .step .4 .answered .said)
+    LinesSaid L s K × LineSaid L (linesState L s K) (lineOf (lineFrom block (p .at))) (S .step .3 .answered .said)
 LinesSaid L s (and-written K) = LinesSaid L s K
 
 -- ---- one line
@@ -109,9 +105,9 @@ pub lines-follow : {L : Limits} {block table cache out : List ℕ} {r : Reached}
 unfolding linesState
 lines-follow at-start F = F
 lines-follow {L} {block} {z = z} (and-line {t′ = t′} {c′ = c′} {p = p} K S) F =
-    let T = S .step .4 in
-    subst (λ k. Follows L (stores t′ c′ k) (lineState L (linesState L z K) (lineAt block (p .at) (S .step .0)))) (sym (T .are-tallies))
-    (line-follows t′ c′ (lineAt block (p .at) (S .step .0)) (T .answered) (T .answer) (lines-follow K F))
+    let T = S .step .3 in
+    subst (λ k. Follows L (stores t′ c′ k) (lineState L (linesState L z K) (lineOf (lineFrom block (p .at))))) (sym (T .are-tallies))
+    (line-follows t′ c′ (lineOf (lineFrom block (p .at))) (T .answered) (T .answer) (lines-follow K F))
 lines-follow (and-written K) F = lines-follow K F
 
 -- and so are the answers
@@ -122,5 +118,5 @@ pub lines-say : {L : Limits} {block table cache out : List ℕ} {r : Reached} {t
 unfolding LinesSaid
 lines-say at-start F = tt
 lines-say {L} {block} (and-line {t′ = t′} {c′ = c′} {p = p} K S) F =
-    (lines-say K F, line-says t′ c′ (lineAt block (p .at) (S .step .0)) (S .step .4 .answered) (S .step .4 .answer) (lines-follow K F))
+    (lines-say K F, line-says t′ c′ (lineOf (lineFrom block (p .at))) (S .step .3 .answered) (S .step .3 .answer) (lines-follow K F))
 lines-say (and-written K) F = lines-say K F

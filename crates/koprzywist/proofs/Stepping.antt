@@ -5,16 +5,16 @@ use mathlib.Core.List.{List}
 use mathlib.Core.Logic.{inl, inr}
 use Prim.Native.Nat.{ℕ, _+_, _-_, _^_, _<_, _≤_}
 use native.Mathlib.Omega.{arith}
-use lib.ListN.{length, take, drop}
+use lib.ListN.{length}
 use lib.Dec.{ltb}
 use borrow.Author.Tests.{lt-ltb, le-ltb, ltb-true, ltb-false}
 use Rattle.answers.specs.Answers.{room, Printed}
 use Rattle.answers.proofs.Booleans.{by-cases}
-use Rattle.script.specs.Blocks.{feedAt, Passable}
-use Rattle.script.specs.Lines.{lineOf}
-use Rattle.script.specs.declared.Next.{Next}
-use Rattle.script.specs.declared.Next.the-variants.{At, None}
-use Rattle.script.proofs.Callers.{feed-after, feed-inside}
+use Rattle.script.specs.Blocks.{LineRead}
+use Rattle.script.specs.declared.Line as script
+use Rattle.script.specs.declared.Read.{Read}
+use Rattle.script.specs.declared.Read.the-variants as read
+use Rattle.script.proofs.Callers.{ends-after}
 use Rattle.interpreter.specs.Lines.{LineAnswered}
 use Rattle.interpreter.specs.declared.Answered.{Answered}
 use Rattle.koprzywist.specs.Blocks.{Stepped, Stopped, Lines, and-line}
@@ -35,12 +35,8 @@ full-else size waiting h =
 
 -- ---- a line feed
 
-module _ (block : List ℕ) (at feed : ℕ) (next : Next) (is : next ≡ feedAt block at) (found : next ≡ At feed) where
-  pub feed-within : feed ≤ length block
-  feed-within = omega (arith, feed-inside block at feed next is found)
-
-pub feed-fits : (next : Next) (feed : ℕ) → Passable next → next ≡ At feed → feed + 1 < 2 ^ 64
-feed-fits next feed P found = subst Passable found P
+pub feed-fits : (block : List ℕ) (at : ℕ) (r : Read) (line : script.Line) (feed : ℕ) → LineRead block at r → r ≡ read.Line line feed → feed + 1 < 2 ^ 64
+feed-fits block at r line feed R found = subst (LineRead block at) found R .is .3
 
 -- ---- a step
 
@@ -48,39 +44,34 @@ module _ {block table cache out : List ℕ} {r : Reached} where
   pub stepped-full : (full : Bool) → full ≡ ltb (length out) (r .waiting + room) → full ≡ true → Stepped block table cache out table cache out r End
   stepped-full full is is-full = record { step = (inr (ltb-true (length out) (r .waiting + room) (sym is ∙ is-full)), refl, refl, refl) }
 
-  pub stepped-end : (next : Next) → next ≡ feedAt block (r .at) → next ≡ None → Stepped block table cache out table cache out r End
-  stepped-end next is none = record { step = (inl (sym is ∙ none), refl, refl, refl) }
+  pub stepped-end : (x : Read) → LineRead block (r .at) x → x ≡ read.None → Stepped block table cache out table cache out r End
+  stepped-end x R none = record { step = (inl (subst (LineRead block (r .at)) none R .is), refl, refl, refl) }
 
-  pub stepped-line : {table′ cache′ out′ : List ℕ} (full : Bool) (next : Next) (feed : ℕ) (a : Answered) (waiting : ℕ)
+  pub stepped-line : {table′ cache′ out′ : List ℕ} (full : Bool) (x : Read) (line : script.Line) (feed : ℕ) (a : Answered) (waiting : ℕ)
       → full ≡ ltb (length out) (r .waiting + room)
       → full ≡ false
-      → next ≡ feedAt block (r .at)
-      → next ≡ At feed
-      → LineAnswered table cache table′ cache′ (r .tallies) (lineOf (take (feed - r .at) (drop (r .at) block))) a
+      → LineRead block (r .at) x
+      → x ≡ read.Line line feed
+      → LineAnswered table cache table′ cache′ (r .tallies) line a
       → Printed (a .said) (r .waiting) out out′ waiting
       → Stepped block table cache out table′ cache′ out′ r (Line (record { at = feed + 1; waiting = waiting; tallies = a .tallies }))
-  stepped-line full next feed a waiting is not-full is-next found A P = record {
-    step = (
-      feed,
-      sym is-next ∙ found,
-      refl,
-      ltb-false (length out) (r .waiting + room) (sym is ∙ not-full),
-      record { answered = a; answer = A; printed = P; are-tallies = refl },
-    );
-  }
+  stepped-line {table′} {cache′} full x line feed a waiting is not-full R found A P =
+      let S = subst (LineRead block (r .at)) found R .is in
+      record {
+        step = (
+          omega (arith, S .0, S .1),
+          omega (arith, S .0),
+          ltb-false (length out) (r .waiting + room) (sym is ∙ not-full),
+          record { answered = a; answer = subst (λ l. LineAnswered table cache table′ cache′ (r .tallies) l a) (S .2) A; printed = P; are-tallies = refl },
+        );
+      }
 
   module _ {table′ cache′ out′ : List ℕ} (p : Reached) (s : Step) (S : Stepped block table cache out table′ cache′ out′ r s) (is : s ≡ Line p) where
     stepped : Stepped block table cache out table′ cache′ out′ r (Line p)
     stepped = subst (Stepped block table cache out table′ cache′ out′ r) is S
 
     pub step-onward : length block - p .at < length block - r .at
-    step-onward =
-        omega (
-          arith,
-          stepped .step .2,
-          feed-after block (r .at) (stepped .step .0) (At (stepped .step .0)) (sym (stepped .step .1)) refl,
-          feed-inside block (r .at) (stepped .step .0) (At (stepped .step .0)) (sym (stepped .step .1)) refl,
-        )
+    step-onward = omega (arith, stepped .step .0, stepped .step .1, ends-after block (r .at))
 
     pub and-step : {table₀ cache₀ out₀ : List ℕ} {r₀ : Reached} → Lines block table₀ cache₀ out₀ r₀ table cache out r → Lines block table₀ cache₀ out₀ r₀ table′ cache′ out′ p
     and-step K = and-line K stepped

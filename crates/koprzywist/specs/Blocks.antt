@@ -4,13 +4,12 @@ use mathlib.Core.Path.{_≡_}
 use mathlib.Core.Bool.{true}
 use mathlib.Core.List.{List}
 use mathlib.Core.Logic.{_⊎_}
-use Prim.Native.Nat.{ℕ, _+_, _-_, _≤_, _<_}
-use lib.ListN.{length, take, drop}
+use Prim.Native.Nat.{ℕ, _+_, _≤_, _<_}
+use lib.ListN.{length}
 use Rattle.tallies.specs.declared.Tallies.{Tallies}
 use Rattle.answers.specs.Answers.{room, Printed}
-use Rattle.script.specs.Blocks.{feedAt}
+use Rattle.script.specs.Blocks.{lineFrom, lineEnd}
 use Rattle.script.specs.Lines.{lineOf}
-use Rattle.script.specs.declared.Next.the-variants.{At, None}
 use Rattle.interpreter.specs.Lines.{LineAnswered}
 use Rattle.interpreter.specs.declared.Answered.{Answered}
 use Rattle.koprzywist.specs.declared.Reached.{Reached}
@@ -29,18 +28,17 @@ pub record Taken (table cache out table′ cache′ out′ line : List ℕ) (r p
   pub printed : Printed (answered .said) (r .waiting) out out′ (p .waiting)
   pub are-tallies : p .tallies ≡ answered .tallies
 
--- there is no whole line any more, or the output has no room for its answer
+-- the block has no whole line any more, or the output has no room for its answer
 abbrev pub Stopped : List ℕ → List ℕ → Reached → Type 0
-Stopped block out r = (feedAt block (r .at) ≡ None) ⊎ (length out < r .waiting + room)
+Stopped block out r = (length block ≤ lineEnd block (r .at)) ⊎ (length out < r .waiting + room)
 
 -- the line from a place of a block to its line feed; or nothing changes
 abbrev pub StepTo : List ℕ → List ℕ → List ℕ → List ℕ → List ℕ → List ℕ → List ℕ → Reached → Step → Type 0
 StepTo block table cache out table′ cache′ out′ r (Line p) =
-    (feed : ℕ)
-    × (feedAt block (r .at) ≡ At feed)
-    × (p .at ≡ feed + 1)
+    (lineEnd block (r .at) < length block)
+    × (p .at ≡ lineEnd block (r .at) + 1)
     × (r .waiting + room ≤ length out)
-    × Taken table cache out table′ cache′ out′ (take (feed - r .at) (drop (r .at) block)) r p
+    × Taken table cache out table′ cache′ out′ (lineFrom block (r .at)) r p
 StepTo block table cache out table′ cache′ out′ r End = Stopped block out r × (table′ ≡ table) × (cache′ ≡ cache) × (out′ ≡ out)
 
 pub record Stepped (block table cache out table′ cache′ out′ : List ℕ) (r : Reached) (s : Step) : Type 0 where
@@ -58,4 +56,4 @@ pub data Lines (block table cache out : List ℕ) (r : Reached) : List ℕ → L
 -- every whole line of a block, unless a write failed or the output has no room for any answer
 pub record BlockAnswered (block table cache out table′ cache′ out′ : List ℕ) (t : Tallies) (w : Written) : Type 0 where
   pub lines : Lines block table cache out (from 0 t) table′ cache′ out′ (from (w .end) (w .tallies))
-  pub none-left : w .ok ≡ true → room ≤ length out → feedAt block (w .end) ≡ None
+  pub none-left : w .ok ≡ true → room ≤ length out → length block ≤ lineEnd block (w .end)

@@ -4,7 +4,7 @@
 use answers::Said;
 use libc::STDIN_FILENO;
 use libc::STDOUT_FILENO;
-use script::Next;
+use script::Read;
 use tallies::Tallies;
 ghost use Prim.Native.Nat.{_+_};
 ghost use mathlib.Core.Path.{_≡_};
@@ -52,12 +52,11 @@ fn next_line(table: &mut [u32], cache: &mut [u32], out: &mut [u8], block: &[u8],
     if is_full(out.len(), r.waiting) {
         return Step::End;
     }
-    let at = r.at;
-    let Next::At(feed) = script::next_feed(block, at) else {
+    let Read::Line(line, feed) = script::read_line(block, r.at) else {
         return Step::End;
     };
     let t = r.tallies;
-    let a = interpreter::answer_line(table, cache, t, &block[at..feed]);
+    let a = interpreter::answer_line(table, cache, t, line);
     let said = a.said;
     let waiting = answers::write_line(out, r.waiting, said);
     let tallies = a.tallies;

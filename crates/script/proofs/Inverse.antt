@@ -15,6 +15,7 @@ use Rattle.answers.specs.Answers.{decimalIn, decimal, said, dotted}
 use Rattle.script.specs.declared.Line.the-variants.{Announce, Withdraw, Look}
 use Rattle.answers.proofs.Booleans.{by-cases, both-true}
 use Rattle.script.proofs.Splitting.{free, digits-free, parts-last}
+use Rattle.script.proofs.NumberLaws.{number-of-digits}
 use Rattle.answers.proofs.DecimalLaws.{ten-digits, dotted-length}
 
 -- ---- numbers
@@ -51,11 +52,6 @@ decimal-value (suc (suc j)) n h k =
     let before : valueFrom 0 (decimalIn (suc j) (n / 10)) ≡ n / 10 = decimal-value (suc j) (n / 10) (omega arith) (omega arith) in
     by-cases (ltb n 10) (λ e. rw e (unfold valueFrom in omega arith))
     (λ e. rw (e, value-append (decimalIn (suc j) (n / 10)), before) (unfold valueFrom in omega arith))
-
-number-of-digits : (most : ℕ) (x : List ℕ) → 0 < length x → digits x ≡ true → valueFrom 0 x ≤ most → number most x ≡ some (valueFrom 0 x)
-unfolding number
-number-of-digits most [] k h m = absurd (omega arith)
-number-of-digits most (b ∷ x) k h m = rw (h, le-leb _ _ m)
 
 some-digit : (k n : ℕ) → 0 < length (decimalIn (suc k) n)
 unfolding decimalIn

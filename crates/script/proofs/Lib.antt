@@ -1,5 +1,7 @@
 pub mod Splitting
-pub mod PartLaws
+pub mod LineEnds
+pub mod RunLaws
+pub mod NumberLaws
 pub mod AddressLaws
 pub mod LineLaws
 pub mod FeedLaws

@@ -29,10 +29,14 @@ write-out-requires : tie.Need-write-out-requires Inv-loop μ-loop
 write-out-requires c κs = search needs
 
 loop-less : tie.Need-loop-less Inv-loop μ-loop
-loop-less c = search (needs, round-onward _ _ _ (c .before .before .before .before .before .before .before .before .before .before .before .whole-lines .ensures) (c .before .before .before .before .before .before .before .before .before .before .before .before .before .before .before .loop .inv .0))
+loop-less c =
+    let round = c .before .before .before .before .before .before .before .before .before .before .before in
+    search (needs, round-onward _ _ _ (round .whole-lines .ensures) (round .before .before .before .before .loop .inv .0))
 
 loop-again : tie.Need-loop-again Inv-loop μ-loop
-loop-again c = (round-inside _ _ _ (c .before .before .before .before .before .before .before .before .before .before .before .whole-lines .ensures) (c .before .before .before .before .before .before .before .before .before .before .before .before .before .before .before .loop .inv .0), search needs, search needs, search needs, search (needs, and-round))
+loop-again c =
+    let round = c .before .before .before .before .before .before .before .before .before .before .before in
+    (round-inside _ _ _ (round .whole-lines .ensures) (round .before .before .before .before .loop .inv .0), search needs, search needs, search needs, search (needs, and-round))
 
 same-length : tie.Need-same-length Inv-loop μ-loop
 same-length c = search needs

@@ -1,7 +1,6 @@
 -- `koprzywist::next_line` meets its contract. Assumes nothing.
 use borrow.Author.Needs.{needs}
-use Rattle.script.proofs.Callers.{feed-after}
-use Rattle.koprzywist.proofs.Stepping.{feed-within, feed-fits, stepped-full, stepped-end, stepped-line}
+use Rattle.koprzywist.proofs.Stepping.{feed-fits, stepped-full, stepped-end, stepped-line}
 use Rattle.koprzywist.proofs.next_line.Statement.{statement}
 use Rattle.koprzywist.proofs.next_line.Tie as tie
 
@@ -11,26 +10,17 @@ is-full-requires c κs = search needs
 returns : tie.Need-returns
 returns c = search (needs, stepped-full)
 
-next-feed-requires : tie.Need-next-feed-requires
-next-feed-requires c κs = search needs
+read-line-requires : tie.Need-read-line-requires
+read-line-requires c κs = search needs
 
-enum-known-feed : tie.Need-enum-known-feed
-enum-known-feed c = search needs
+enum-known-line : tie.Need-enum-known-line
+enum-known-line c = search needs
 
 enum-told : tie.Need-enum-told
 enum-told c = search needs
 
 returns-2 : tie.Need-returns-2
 returns-2 c = search (needs, stepped-end)
-
-sub-answer-line : tie.Need-sub-answer-line
-sub-answer-line c = search (needs, feed-after)
-
-part-answer-line-start : tie.Need-part-answer-line-start
-part-answer-line-start c = search (needs, feed-after)
-
-part-answer-line-end : tie.Need-part-answer-line-end
-part-answer-line-end c = search (needs, feed-within)
 
 answer-line-requires : tie.Need-answer-line-requires
 answer-line-requires c κs = search needs
@@ -59,13 +49,10 @@ next-line-spec =
     (tie.spec
     is-full-requires
     returns
-    next-feed-requires
-    enum-known-feed
+    read-line-requires
+    enum-known-line
     enum-told
     returns-2
-    sub-answer-line
-    part-answer-line-start
-    part-answer-line-end
     answer-line-requires
     write-line-requires
     add-next

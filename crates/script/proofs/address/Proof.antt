@@ -1,6 +1,6 @@
 -- `script::address` meets its contract. Assumes nothing.
-use Rattle.script.proofs.AddressLaws.{octet-small, last-small, address-none-1, address-none-2, address-none-3, address-none-4, address-read}
 use borrow.Author.Needs.{needs}
+use Rattle.script.proofs.AddressLaws.{octet-small, last-octet-small, address-none-1, address-none-2, address-none-3, address-none-4, address-read}
 use Rattle.script.proofs.address.Statement.{statement}
 use Rattle.script.proofs.address.Tie as tie
 
@@ -40,8 +40,8 @@ enum-told-3 c = search needs
 returns-3 : tie.Need-returns-3
 returns-3 c = search (needs, address-none-3)
 
-part-requires : tie.Need-part-requires
-part-requires c κs = search needs
+number-requires : tie.Need-number-requires
+number-requires c κs = search needs
 
 enum-known-d : tie.Need-enum-known-d
 enum-known-d c = search needs
@@ -53,7 +53,7 @@ returns-4 : tie.Need-returns-4
 returns-4 c = search (needs, address-none-4)
 
 joined-requires : tie.Need-joined-requires
-joined-requires c κs = search (needs, octet-small, last-small)
+joined-requires c κs = search (needs, octet-small, last-octet-small)
 
 returns-5 : tie.Need-returns-5
 returns-5 c = rw (c .joined .ensures) (search (needs, address-read))
@@ -74,7 +74,7 @@ address-spec =
     enum-known-c
     enum-told-3
     returns-3
-    part-requires
+    number-requires
     enum-known-d
     enum-told-4
     returns-4

@@ -3,13 +3,13 @@ use Prim.Native.Nat.{_-_}
 use mathlib.Core.Path.{_≡_}
 use lib.ListN.{length}
 use borrow.Author.Needs.{needs}
-use Rattle.script.specs.Blocks.{endOf, feed}
+use Rattle.script.specs.Blocks.{lineEnd}
 use Rattle.script.proofs.FeedLaws.{feed-found, no-feed, feed-later}
 use Rattle.script.proofs.next_feed.Statement.{statement}
 use Rattle.script.proofs.next_feed.Tie as tie
 
 abbrev Inv-loop : tie.InvT-loop
-Inv-loop block from i₀ i = endOf feed block i ≡ endOf feed block from
+Inv-loop block from i₀ i = lineEnd block i ≡ lineEnd block from
 
 abbrev μ-loop : tie.MeasureT-loop
 μ-loop block from i₀ i = length block - i
