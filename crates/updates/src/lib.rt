@@ -74,21 +74,17 @@ pub fn first_refusal(u: Update) -> u32
 pub fn update_table(store: &mut [u32], u: Update) -> Verdict
     ensures { λ r. ⌜ TableUpdated (now (store .entry)) (now (store .exit)) u r ⌝ }
 {
-    let p = u.prefix;
-    let action = u.action;
-    if 32 < p.length {
+    let first = first_refusal(u);
+    if first == 1 {
         return Verdict::TooLong;
     }
+    if first == 2 {
+        return Verdict::BadHop;
+    }
+    let p = u.prefix;
+    let action = u.action;
     match action {
-        Action::Announce(hop) => {
-            if hop == 0 {
-                return Verdict::BadHop;
-            }
-            if 65535 < hop {
-                return Verdict::BadHop;
-            }
-            announce::announce(store, p.address, p.length, hop)
-        }
+        Action::Announce(hop) => announce::announce(store, p.address, p.length, hop),
         Action::Withdraw => withdraw::withdraw(store, p.address, p.length),
     }
 }
