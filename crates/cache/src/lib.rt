@@ -159,5 +159,5 @@ fn is_hop(hop: u32) -> bool
     if hop == 0 {
         return false;
     }
-    hop <= 65_535
+    hop <= sizes::HIGHEST_HOP
 }

@@ -8,6 +8,7 @@ ghost use Prim.Native.Nat.{suc, _/_, _≤_, _<_};
 ghost use lib.ListN.{take};
 ghost use Rattle.prefix.specs.Addresses.{ipv4Bits};
 ghost use Rattle.sizes.specs.BothStores.{limitOf};
+ghost use Rattle.model.specs.Model.{highestHop};
 ghost use Rattle.slots.specs.Layout.{entriesHeld, Shaped};
 ghost use Rattle.entries.specs.Caches.{entries as heldEntries, Free, SoundEntries, Kept, Holds};
 ghost use Rattle.entries.specs.Changed.{Slots};
@@ -17,7 +18,7 @@ ghost use Rattle.insertion.specs.Hangs.{forked, Beside, Hung};
 pub fn insert_entry(store: &mut [u32], entries: u32, a: Address, n: u32, hop: u32)
     requires { ⌜ Shaped (now store) ⌝ }
     requires { ⌜ entries ≡ entriesHeld (now store) ⌝ }
-    requires { ⌜ (entries < limitOf (now store)) × (n ≤ 32) × (hop ≤ 65535) ⌝ }
+    requires { ⌜ (entries < limitOf (now store)) × (n ≤ 32) × (hop ≤ highestHop) ⌝ }
     ensures { λ _. ⌜ Kept (now (store .entry)) (now (store .exit)) (suc entries) ⌝ }
     ensures { λ _. ⌜ (SoundEntries (now (store .entry)) → Free (now (store .entry)) (take n (ipv4Bits a)) → Holds (now (store .exit)) (record { prefix = take n (ipv4Bits a); hop = hop } ∷ heldEntries (now (store .entry)))) ⌝ }
 {
@@ -30,7 +31,7 @@ pub fn insert_entry(store: &mut [u32], entries: u32, a: Address, n: u32, hop: u3
 fn hang_entry(store: &mut [u32], entries: u32, a: Address, n: u32, hop: u32)
     requires { ⌜ Shaped (now store) ⌝ }
     requires { ⌜ entries ≡ entriesHeld (now store) ⌝ }
-    requires { ⌜ (entries < limitOf (now store)) × (n ≤ 32) × (hop ≤ 65535) ⌝ }
+    requires { ⌜ (entries < limitOf (now store)) × (n ≤ 32) × (hop ≤ highestHop) ⌝ }
     ensures { λ _. ⌜ Hung (now (store .entry)) (now (store .exit)) (take n (ipv4Bits a)) hop ⌝ }
 {
     if entries == 0 {
@@ -51,7 +52,7 @@ fn hang_entry(store: &mut [u32], entries: u32, a: Address, n: u32, hop: u32)
 // The first entry has no branch: it hangs in the root cell.
 fn hang_first(store: &mut [u32], a: Address, n: u32, hop: u32)
     requires { ⌜ Slots (now store) 1 × (entriesHeld (now store) ≡ 0) ⌝ }
-    requires { ⌜ (n ≤ 32) × (hop ≤ 65535) ⌝ }
+    requires { ⌜ (n ≤ 32) × (hop ≤ highestHop) ⌝ }
     ensures { λ _. ⌜ Hung (now (store .entry)) (now (store .exit)) (take n (ipv4Bits a)) hop ⌝ }
 {
     slots::set_entry(store, 1, prefix::to_ipv4(a), n, hop);
@@ -62,7 +63,7 @@ fn hang_first(store: &mut [u32], a: Address, n: u32, hop: u32)
 // The entry of slot s, in the cell of the node x, where the walk by its address stopped.
 fn hang_beside(store: &mut [u32], s: u32, x: u32, cell: u32, a: Address, n: u32, hop: u32)
     requires { ⌜ Beside (now store) (ipv4Bits a) s x cell ⌝ }
-    requires { ⌜ (n ≤ 32) × (hop ≤ 65535) ⌝ }
+    requires { ⌜ (n ≤ 32) × (hop ≤ highestHop) ⌝ }
     ensures { λ _. ⌜ Hung (now (store .entry)) (now (store .exit)) (take n (ipv4Bits a)) hop ⌝ }
 {
     let m = find::common_with(store, x / 2, a);

@@ -11,6 +11,7 @@ ghost use Prim.Native.Nat.{max, _≤_};
 ghost use lib.ListN.{take};
 ghost use Rattle.prefix.specs.Addresses.{ipv4Bits};
 ghost use Rattle.sizes.specs.BothStores.{limitOf};
+ghost use Rattle.model.specs.Model.{highestHop};
 ghost use Rattle.slots.specs.Layout.{entriesHeld, Shaped};
 ghost use Rattle.entries.specs.Caches.{Slot, SoundEntries, Free};
 ghost use Rattle.pairs.specs.Pairs.{SoundPair};
@@ -91,7 +92,7 @@ fn miss(table: &[u32], cache: &mut [u32], h: Header, x: Address, past: u32, t: T
     if 32 < n {
         return unsound(t);
     }
-    if 65535 < hop {
+    if sizes::HIGHEST_HOP < hop {
         return unsound(t);
     }
     store_entry(cache, h, x, n, hop, s.examined, t)
@@ -115,7 +116,7 @@ fn store_entry(
 ) -> Looked
     requires { ⌜ Shaped (now cache) ⌝ }
     requires { ⌜ (h .limit ≡ limitOf (now cache)) × (h .entries ≡ entriesHeld (now cache)) ⌝ }
-    requires { ⌜ (n ≤ 32) × (hop ≤ 65535) ⌝ }
+    requires { ⌜ (n ≤ 32) × (hop ≤ highestHop) ⌝ }
     ensures { λ r. ⌜ (SoundEntries (now (cache .entry)) → Free (now (cache .entry)) (take n (ipv4Bits x)) → Stored (now (cache .entry)) (now (cache .exit)) (ipv4Bits x) n hop examined t r) ⌝ }
     ensures { λ r. ⌜ NothingCounted t r ⌝ }
 {

@@ -10,7 +10,7 @@ use Rattle.prefix.specs.declared.Address.{Address}
 use Rattle.sizes.specs.Sizes.{largestLimit}
 use Rattle.model.specs.Lists.{_∈_}
 use Rattle.model.specs.Routes as model
-use Rattle.model.specs.Model.{Entry, withdraws, leaves, fresh, refreshed, removed, changed}
+use Rattle.model.specs.Model.{Entry, highestHop, withdraws, leaves, fresh, refreshed, removed, changed}
 use Rattle.slots.specs.Layout.{entriesHeld, Shaped}
 use Rattle.table.specs.Tables.{routes, SoundTable}
 use Rattle.entries.specs.Caches.{entries, SoundEntries, Slot, entryIn, Kept}
@@ -69,7 +69,7 @@ Drops w w′ p q = (T : model.Table) (u : model.Update) → SoundEntries w → l
 -- it stays, with this hop
 abbrev pub Keeps : List ℕ → List ℕ → Pass → ℕ → Pass → Type 0
 Keeps w w′ p hop q = (T : model.Table) (u : model.Update) → SoundEntries w → leaves T u (entryIn w (p .at)) ≡ false
-    → fresh T (entryIn w (p .at)) .hop ≡ hop → hop ≤ 65535 → Turned T u w w′ p q
+    → fresh T (entryIn w (p .at)) .hop ≡ hop → hop ≤ highestHop → Turned T u w w′ p q
 
 -- a table and a cache that are sound, each in itself, and an update that was not too long and left the other entries right
 pub record Ready (table w : List ℕ) (u : Update) : Type 0 where

@@ -132,7 +132,7 @@ fn keep_one(cache: &mut [u32], p: Pass, hop: u32) -> Pass
     if old == hop {
         return next_slot(p, 0);
     }
-    if 65535 < hop {
+    if sizes::HIGHEST_HOP < hop {
         return next_slot(p, 0);
     }
     entries::give_hop(cache, p.at, hop);

@@ -6,6 +6,8 @@ pub const LARGEST_LIMIT: u32 = 1_048_576;
 
 pub const RESERVED_WORDS: usize = 1024;
 
+pub const HIGHEST_HOP: u32 = 65_535;
+
 const TABLE_WORDS_A_ROUTE: usize = 16;
 
 const CACHE_WORDS_AN_ENTRY: usize = 8;

@@ -5,6 +5,7 @@ use mathlib.Core.List.{List}
 use mathlib.Core.Option.{some}
 use Prim.Native.Nat.{ℕ, suc, _-_, _≤_, _<_}
 use lib.ListN.{length}
+use Rattle.model.specs.Model.{highestHop}
 use Rattle.model.specs.Demands.{Hop}
 use Rattle.trie.specs.Trie.{Fits, Owned, Dense}
 use Rattle.trie.specs.Routes.{routesOf}
@@ -38,7 +39,7 @@ pub record HasCell (w : List ℕ) (p : ℕ) : Type 0 where
 -- a branch has two nodes below it, and a hop is 1 to 65,535
 pub record Marked (node : Node) : Type 0 where
   pub branch : node .mark ≡ 0 → (0 < node .left) × (0 < node .right)
-  pub route : 0 < node .mark → (2 ≤ node .mark) × (node .mark ≤ 65536)
+  pub route : 0 < node .mark → (2 ≤ node .mark) × (node .mark ≤ suc highestHop)
 
 pub record NodeFine (w : List ℕ) (p : ℕ) : Type 0 where
   pub short : word w (slotWord p 1) ≤ 32

@@ -22,6 +22,9 @@ ghost use Rattle.table.specs.Stops.{Stopped};
 ghost use Rattle.table.specs.Turns.{Going, Turned, offOf, Tested, Chosen};
 ghost use Rattle.table.specs.Checks.{Verdict, Decides, GoesOn, CellFine, HasCell, Marked, NodeFine, Passed};
 
+// A route's mark is its hop and one more.
+const HIGHEST_MARK: u32 = sizes::HIGHEST_HOP + 1;
+
 // An empty table, where the store is large enough for the limit.
 pub fn set_up(store: &mut [u32], limit: u32) -> Setup
     ensures { λ r. ⌜ TableSetUp (now (store .entry)) (now (store .exit)) limit r ⌝ }
@@ -237,7 +240,7 @@ fn mark_ok(node: Node) -> bool
     if node.mark < 2 {
         return false;
     }
-    node.mark <= 65536
+    node.mark <= HIGHEST_MARK
 }
 
 // Whether node p's cell is one that there is, and points at the node.

@@ -61,7 +61,7 @@ pub fn first_refusal(u: Update) -> u32
             if hop == 0 {
                 return 2;
             }
-            if 65535 < hop {
+            if sizes::HIGHEST_HOP < hop {
                 return 2;
             }
             0
