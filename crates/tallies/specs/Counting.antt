@@ -27,29 +27,26 @@ afterDrop t = record { hits = t .hits; misses = t .misses; drops = plus (t .drop
 abbrev pub afterUpdate : Tallies → ℕ → Tallies
 afterUpdate t n = record { hits = t .hits; misses = t .misses; drops = t .drops; evicted = t .evicted; removed = plus (t .removed) n }
 
+-- two records, tally by tally
+abbrev pub both : (ℕ → ℕ → ℕ) → Tallies → Tallies → Tallies
+both op t u = record {
+  hits = op (t .hits) (u .hits);
+  misses = op (t .misses) (u .misses);
+  drops = op (t .drops) (u .drops);
+  evicted = op (t .evicted) (u .evicted);
+  removed = op (t .removed) (u .removed);
+}
+
+abbrev pub sum : Tallies → Tallies → Tallies
+sum t moved = both plus t moved
+
 -- the difference of two readings
 abbrev pub difference : Tallies → Tallies → Tallies
-difference now then = record {
-  hits = minus (now .hits) (then .hits);
-  misses = minus (now .misses) (then .misses);
-  drops = minus (now .drops) (then .drops);
-  evicted = minus (now .evicted) (then .evicted);
-  removed = minus (now .removed) (then .removed);
-}
+difference now then = both minus now then
 
 -- "entries held = misses - evicted - removed, modulo 2^32"
 abbrev pub heldSum : Tallies → ℕ
 heldSum t = minus (minus (t .misses) (t .evicted)) (t .removed)
-
--- two records, tally by tally
-abbrev pub sum : Tallies → Tallies → Tallies
-sum t moved = record {
-  hits = plus (t .hits) (moved .hits);
-  misses = plus (t .misses) (moved .misses);
-  drops = plus (t .drops) (moved .drops);
-  evicted = plus (t .evicted) (moved .evicted);
-  removed = plus (t .removed) (moved .removed);
-}
 
 -- each is a number of 32 bits
 pub record InRange (t : Tallies) : Type 0 where
