@@ -1,15 +1,18 @@
 -- One turn of the walk, and the walk. Assumes nothing.
-use mathlib.Core.Path.{_≡_, sym, ap, _∙_}
-use mathlib.Core.Bool.{true, false}
+use mathlib.Core.Path.{_≡_, refl, sym, ap, _∙_}
+use mathlib.Core.Bool.{Bool, true, false, not}
 use mathlib.Core.List.{List}
 use Prim.Native.Nat.{ℕ, suc, _+_, _-_, _*_, _/_, _%_, _≤_, _<_}
 use native.Mathlib.Omega.{arith}
-use lib.ListN.{getD}
+use lib.ListN.{length, getD}
+use lib.Dec.{leb}
+use borrow.Author.Tests.{leb-true, leb-false}
 use lib.Seq.{getD-take}
 use Rattle.prefix.specs.Bits.{Bits, digit}
 use Rattle.prefix.specs.Prefix.{common}
 use Rattle.prefix.specs.Addresses.{addressBits, ipv4Bits}
 use Rattle.prefix.specs.declared.Address.{Address}
+use Rattle.prefix.proofs.Booleans.{not-false}
 use Rattle.prefix.proofs.BitLaws.{bit-small}
 use Rattle.prefix.proofs.AddressLaws.{length-ipv4}
 use Rattle.lru.specs.Slots.{cellOf}
@@ -21,15 +24,19 @@ use Rattle.sizes.specs.BothStores.{slotWord, word}
 use Rattle.slots.specs.Layout.{cellWord, entriesHeld, cacheOf}
 use Rattle.slots.proofs.ReadLaws.{read-child, read-branch}
 use Rattle.entries.specs.Caches.{SoundEntries}
-use Rattle.entries.specs.Walks.{CommonWith, Going, Turned, Walked}
+use Rattle.entries.specs.Walks.{BranchCovers, Going, Turned, Walked}
 use Rattle.entries.specs.declared.find.Turn.{Turn}
 use Rattle.entries.specs.declared.find.Turn.the-variants.{On, End}
-use Rattle.entries.proofs.EntryLaws.{entry-short, all-short}
+use Rattle.entries.proofs.EntryLaws.{entry-short, entry-size, all-short}
 
 -- ---- the cell on a side
 
 pub side-is : (x : Bits) (m i r : ℕ) → r ≡ digit (getD x m false) → (2 * i + r ≡ cellOf i (getD x m false)) × ((2 * i + r) / 2 ≡ i)
 side-is x m i r e = (ap (λ k. 2 * i + k) e, omega (arith, bit-small x m r e))
+
+not-true : (b : Bool) → not b ≡ false → b ≡ true
+not-true true h = refl
+not-true false h = sym h
 
 -- ---- one turn
 
@@ -43,24 +50,30 @@ module _ (w : List ℕ) (x : Address) (at : ℕ) where
     unfolding Turned
     ends-outside h S l = absurd (omega arith)
 
-    -- a branch of m bits, with an entry that has s bits in common with x
-    module _ (inside : at / 2 ≤ entries) (m s : ℕ) (em : m ≡ word w (slotWord (at / 2) 7) % 64) (es : CommonWith w (at / 2) (ipv4Bits x) s) where
-      s-is : SoundEntries w → Live (entriesHeld w) at → s ≡ common (ipv4Bits x) (cacheOf w .entry (at / 2))
-      s-is S l = es .is-common (S .plain .short (at / 2) (omega arith) (omega arith))
-
+    -- a branch of m bits, and whether it contains x
+    module _ (inside : at / 2 ≤ entries) (m : ℕ) (em : m ≡ word w (slotWord (at / 2) 7) % 64) (b : Bool) (eb : BranchCovers w (at / 2) m (ipv4Bits x) b) where
       m-is : m ≡ cacheOf w .branchLength (at / 2)
       m-is = em ∙ read-branch w (at / 2)
 
-      pub ends-miss : s < m → Turned w (ipv4Bits x) at End
-      unfolding Turned
-      ends-miss h S l = stops-miss (cacheOf w) (ipv4Bits x) at (omega (arith, s-is S l, m-is))
+      -- it is shorter than the slot's entry
+      m-short : SoundEntries w → Live (entriesHeld w) at → ¬ (at % 2 ≡ 0) → m < length (cacheOf w .entry (at / 2))
+      m-short S l odd = rw m-is (branch-short (S .slots) (at / 2) (omega arith) (omega arith))
 
-      pub goes-on : ¬ (at % 2 ≡ 0) → m ≤ s → (q r : ℕ) → (q ≡ cellOf (at / 2) (getD (addressBits x) m false)) × (q / 2 ≡ at / 2) → r ≡ word w (cellWord q) → Turned w (ipv4Bits x) at (On r)
+      b-is : SoundEntries w → Live (entriesHeld w) at → ¬ (at % 2 ≡ 0) → b ≡ leb m (common (ipv4Bits x) (cacheOf w .entry (at / 2)))
+      b-is S l odd =
+          let short = S .plain .short (at / 2) (omega arith) (omega arith) in
+          eb .is-test (omega (arith, m-short S l odd, entry-size w (at / 2) (word w (slotWord (at / 2) 1) % 64) refl short)) short
+
+      pub ends-miss : ¬ (at % 2 ≡ 0) → not b ≡ true → Turned w (ipv4Bits x) at End
+      unfolding Turned
+      ends-miss odd h S l =
+          stops-miss (cacheOf w) (ipv4Bits x) at (omega (arith, leb-false m (common (ipv4Bits x) (cacheOf w .entry (at / 2))) (sym (b-is S l odd) ∙ not-false b h), m-is))
+
+      pub goes-on : ¬ (at % 2 ≡ 0) → not b ≡ false → (q r : ℕ) → (q ≡ cellOf (at / 2) (getD (addressBits x) m false)) × (q / 2 ≡ at / 2) → r ≡ word w (cellWord q) → Turned w (ipv4Bits x) at (On r)
       unfolding Turned towards
       goes-on odd h q r eq er S l =
-          let fits = branch-short (S .slots) (at / 2) (omega arith) (omega arith) in
-          let bit : getD (ipv4Bits x) m false ≡ getD (addressBits x) m false = getD-take 32 (addressBits x) m false (omega (arith, fits, m-is, entry-short w (at / 2))) in (
-            passes-branch (cacheOf w) (ipv4Bits x) at odd (omega (arith, s-is S l, m-is)),
+          let bit : getD (ipv4Bits x) m false ≡ getD (addressBits x) m false = getD-take 32 (addressBits x) m false (omega (arith, m-short S l odd, entry-short w (at / 2))) in (
+            passes-branch (cacheOf w) (ipv4Bits x) at odd (omega (arith, leb-true m (common (ipv4Bits x) (cacheOf w .entry (at / 2))) (sym (b-is S l odd) ∙ not-true b h), m-is)),
             er ∙ read-child w q ∙ ap (cacheOf w .child) (eq .0 ∙ ap (cellOf (at / 2)) (sym bit ∙ ap (λ k. getD (ipv4Bits x) k false) m-is)),
           )
 

@@ -1,8 +1,9 @@
 -- The walk by an address over a store: where it stands, what one turn of it answers, and where it stops. Assumes nothing.
 use mathlib.Core.Path.{_≡_}
-use mathlib.Core.Bool.{true, false}
+use mathlib.Core.Bool.{Bool, true, false}
 use mathlib.Core.List.{List}
 use Prim.Native.Nat.{ℕ, _%_, _≤_, _<_}
+use lib.Dec.{leb}
 use Rattle.prefix.specs.Bits.{Bits}
 use Rattle.prefix.specs.Prefix.{common}
 use Rattle.lru.specs.Sound.{Live}
@@ -18,6 +19,10 @@ use Rattle.entries.specs.declared.find.Turn.the-variants.{On, End}
 pub record CommonWith (w : List ℕ) (i : ℕ) (X : Bits) (r : ℕ) : Type 0 where
   pub small : r < 64
   pub is-common : word w (slotWord i 1) % 64 ≤ 32 → r ≡ common X (cacheOf w .entry i)
+
+-- whether the first m bits of slot i's address contain X, where that is a length of the entry's and it is one of a sound store
+pub record BranchCovers (w : List ℕ) (i m : ℕ) (X : Bits) (r : Bool) : Type 0 where
+  pub is-test : m ≤ word w (slotWord i 1) % 64 → word w (slotWord i 1) % 64 ≤ 32 → r ≡ leb m (common X (cacheOf w .entry i))
 
 -- a sound store with entries: what the walk finds is what it finds from the node at with the steps left
 pub record Going (w : List ℕ) (X : Bits) (at left : ℕ) : Type 0 where

@@ -10,7 +10,7 @@ ghost use Rattle.lru.specs.Slots.{cellOf};
 ghost use Rattle.sizes.specs.BothStores.{Room};
 ghost use Rattle.slots.specs.Layout.{entriesHeld, Shaped};
 ghost use Rattle.entries.specs.Caches.{NearestTo};
-ghost use Rattle.entries.specs.Walks.{CommonWith, Turned, Walked};
+ghost use Rattle.entries.specs.Walks.{CommonWith, BranchCovers, Turned, Walked};
 
 // What the entries say of an address: the one in this slot contains it; or none does, and then one more than the most bits
 // that any has in common with it, 0 where there is none.
@@ -31,6 +31,14 @@ pub fn common_with(store: &[u32], i: u32, x: Address) -> u32
 {
     let n = slots::length_of(store, i);
     prefix::common_bits_high(x, slots::address_of(store, i), n)
+}
+
+// Whether the branch of slot i, whose prefix is the first m bits of the slot's address, contains x.
+fn branch_covers(store: &[u32], i: u32, m: u32, x: Address) -> bool
+    requires { ⌜ Room (now store) i × (m < 64) ⌝ }
+    ensures { λ r. ⌜ BranchCovers (now (store .entry)) i m (ipv4Bits x) r ⌝ }
+{
+    prefix::covers_high(slots::address_of(store, i), m, x)
 }
 
 // The cell of slot i's branch on the side of bit m of x.
@@ -55,7 +63,7 @@ fn step(store: &[u32], entries: u32, x: Address, at: u32) -> Turn
         return Turn::End;
     }
     let m = slots::branch_length(store, i);
-    if common_with(store, i, x) < m {
+    if !branch_covers(store, i, m, x) {
         return Turn::End;
     }
     Turn::On(slots::child_of(store, side_of(x, i, m)))

@@ -13,8 +13,8 @@ returns-2 c = search (needs, ends-outside)
 branch-length-requires : tie.Need-branch-length-requires
 branch-length-requires c κs = search needs
 
-common-with-requires : tie.Need-common-with-requires
-common-with-requires c κs = search needs
+branch-covers-requires : tie.Need-branch-covers-requires
+branch-covers-requires c κs = search needs
 
 returns-3 : tie.Need-returns-3
 returns-3 c = search (needs, ends-miss)
@@ -35,7 +35,7 @@ step-spec =
     returns
     returns-2
     branch-length-requires
-    common-with-requires
+    branch-covers-requires
     returns-3
     side-of-requires
     child-of-requires
