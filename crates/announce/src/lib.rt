@@ -1,4 +1,5 @@
 // A route comes in, or takes another hop.
+#![tactic(auto)]
 ghost use Rattle.std.specs.Prelude.{◌≤◌, ◌<◌};
 ghost use Rattle.model.specs.Demands.{Hop};
 ghost use Rattle.announce.specs.Writes.{Roomy};
@@ -13,7 +14,7 @@ use verdicts::Verdict;
 mod growing;
 
 // The first bits of an address, as many as the length says, with a hop.
-#[derive(Drop)]
+#[derive(Clone, Copy)]
 struct Route {
     address: Address,
     length: u32,

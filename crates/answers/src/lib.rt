@@ -1,5 +1,6 @@
 // The bytes of each line that is printed. Each function stores its bytes from a place of the lent buffer on, and answers the
 // place after them.
+#![tactic(auto)]
 ghost use Rattle.std.specs.Prelude.{◌≡◌, ◌+◌, ◌≤◌, ◌<◌, ◌++◌, length};
 ghost use Rattle.answers.specs.Text.{text};
 ghost use Rattle.answers.specs.Answers.{decimal, dotted, answer_of, room, Printed};
@@ -8,7 +9,7 @@ ghost use Rattle.answers.specs.Writing.{three, Written};
 const ROOM: usize = 64;
 
 // What is printed of an answer, and the last line.
-#[derive(Drop)]
+#[derive(Clone, Copy)]
 pub enum Said {
     // entries removed, and entries changed
     Done(u32, u32),

@@ -3,6 +3,7 @@
 // A slice is two arguments of C, a pointer and a count. There is no logic here: each function makes the proved call and
 // writes its answer as words; a refused call writes 0 to every word of its answer. What a call moves is counted from zero
 // and added to the record that the caller lends.
+#![tactic(auto)]
 ghost use Rattle.std.specs.Prelude.{◌≡◌, cond, [], ◌∷◌};
 ghost use Rattle.sizes.specs.Sizes.{entries_for, sizing_number, sizing_entries};
 ghost use Rattle.tallies.specs.Counting.{difference as between, held_sum};
@@ -66,7 +67,7 @@ fn as_number(yes: bool) -> u32
 // ---- lookup
 
 // What a call returns, once its answer is written, and what it moved.
-#[derive(Drop)]
+#[derive(Clone, Copy)]
 struct Told {
     number: u32,
     moved: Tallies,

@@ -13,10 +13,10 @@ use Rattle.prefix.specs.Bits.{bits}
 use Rattle.prefix.specs.Prefix.{common}
 use Rattle.prefix.proofs.Booleans.{clash, is_true}
 use Rattle.prefix.proofs.Common.{common_take}
-use Rattle.lru.specs.Slots.{cell_of}
-use Rattle.lru.specs.Sound.{Slot, Live, Ring}
-use Rattle.lru.specs.Checks.{length_at, Leads, BranchOk, RootOk, Checked}
-use Rattle.lru.proofs.Checking.{checked_sound, sound_checked}
+use Rattle.lru_cache.specs.Slots.{cell_of}
+use Rattle.lru_cache.specs.Sound.{Slot, Live, Ring}
+use Rattle.lru_cache.specs.Checks.{length_at, Leads, BranchOk, RootOk, Checked}
+use Rattle.lru_cache.proofs.Checking.{checked_sound, sound_checked}
 use Rattle.sizes.specs.BothStores.{slot_word, word}
 use Rattle.slots.specs.Layout.{entries_held, cache_of, Shaped}
 use Rattle.slots.specs.Headers.{HeaderRead}

@@ -18,9 +18,9 @@ use Rattle.prefix.proofs.BitLaws.{digit_one, length_bits, bit_digit}
 use Rattle.prefix.proofs.Common.{common_sym, common_take}
 use Rattle.prefix.proofs.Tests.{contains_common}
 use Rattle.prefix.proofs.AddressLaws.{ipv4_contains, ipv4_bit}
-use Rattle.lru.specs.Slots.{cell_of}
-use Rattle.lru.specs.Sound.{Live, InUse}
-use Rattle.lru.specs.Checks.{length_at, Hangs}
+use Rattle.lru_cache.specs.Slots.{cell_of}
+use Rattle.lru_cache.specs.Sound.{Live, InUse}
+use Rattle.lru_cache.specs.Checks.{length_at, Hangs}
 use Rattle.sizes.specs.BothStores.{slot_word, word, Room}
 use Rattle.slots.specs.Layout.{cell_word, entries_held, up_in, cache_of, Shaped}
 use Rattle.slots.proofs.ReadLaws.{read_up}

@@ -8,10 +8,10 @@ use native.Mathlib.Numerals.{add-one}
 use native.Mathlib.Omega.{arith}
 use lib.Dec.{eqb}
 use borrow.Author.Tests.{eqb-true, eqb-false}
-use Rattle.lru.specs.Slots.{Cache}
-use Rattle.lru.specs.Sound.{along, Ring}
-use Rattle.lru.specs.Checks.{Walked}
-use Rattle.lru.proofs.Checking.{walked_start, walked_step, walked_ring}
+use Rattle.lru_cache.specs.Slots.{Cache}
+use Rattle.lru_cache.specs.Sound.{along, Ring}
+use Rattle.lru_cache.specs.Checks.{Walked}
+use Rattle.lru_cache.proofs.Checking.{walked_start, walked_step, walked_ring}
 use Rattle.sizes.specs.BothStores.{slot_word, word}
 use Rattle.slots.specs.Layout.{cache_of}
 use Rattle.slots.proofs.ReadLaws.{read_prev, read_next}

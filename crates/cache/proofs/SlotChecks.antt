@@ -6,8 +6,8 @@ use Prim.Native.Nat.{ℕ, ◌%◌, ◌≤◌, ◌<◌}
 use native.Mathlib.Omega.{arith}
 use lib.Dec.{eqb}
 use borrow.Author.Tests.{eqb-true, eqb-false, not-true, not-false}
-use Rattle.lru.specs.Slots.{entry_node, branch_node, root_cell}
-use Rattle.lru.specs.Checks.{Hangs, RootOk}
+use Rattle.lru_cache.specs.Slots.{entry_node, branch_node, root_cell}
+use Rattle.lru_cache.specs.Checks.{Hangs, RootOk}
 use Rattle.sizes.specs.BothStores.{slot_word, word}
 use Rattle.slots.specs.Layout.{cell_word, entries_held, cache_of}
 use Rattle.slots.proofs.ReadLaws.{read_child, read_branch}

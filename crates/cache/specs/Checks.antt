@@ -2,9 +2,9 @@
 use Rattle.std.specs.Prelude.{◌≡◌, Bool, true, false, List, ℕ, ◌/◌, ◌%◌, ◌≤◌, ◌<◌, length, get_or}
 use Rattle.prefix.specs.Bits.{bits}
 use Rattle.prefix.specs.Prefix.{common}
-use Rattle.lru.specs.Slots.{entry_node, branch_node, cell_of}
-use Rattle.lru.specs.Sound.{Live}
-use Rattle.lru.specs.Checks.{length_at, Hangs}
+use Rattle.lru_cache.specs.Slots.{entry_node, branch_node, cell_of}
+use Rattle.lru_cache.specs.Sound.{Live}
+use Rattle.lru_cache.specs.Checks.{length_at, Hangs}
 use Rattle.sizes.specs.BothStores.{slot_word, word}
 use Rattle.slots.specs.Layout.{entries_held, cache_of}
 

@@ -1,8 +1,8 @@
 // Whether a cache store is sound in itself: one look at each slot, and one round of the ring of use.
 ghost use Rattle.std.specs.Prelude.{◌≡◌, ◌%◌, ◌/◌, ◌≤◌, ◌<◌};
 ghost use Rattle.prefix.specs.Bits.{one?};
-ghost use Rattle.lru.specs.Sound.{Live, InUse, Ring};
-ghost use Rattle.lru.specs.Checks.{Hangs, RootOk};
+ghost use Rattle.lru_cache.specs.Sound.{Live, InUse, Ring};
+ghost use Rattle.lru_cache.specs.Checks.{Hangs, RootOk};
 ghost use Rattle.sizes.specs.BothStores.{slot_word, word, Room};
 ghost use Rattle.slots.specs.Layout.{entries_held, cache_of, Shaped};
 ghost use Rattle.cache.specs.Calls.{EntriesChecked};

@@ -1,6 +1,7 @@
 // A cache of prefixes in a lent store. Every call here takes any content of the store and any argument: it reads the header
 // itself, and a refusal leaves every word as it was. What the calls are made of is below: the crate entries has the entries over
 // their words, insertion and removal the ways in and out.
+#![tactic(auto)]
 ghost use Rattle.prefix.specs.Addresses.{ipv4_bits};
 ghost use Rattle.model.specs.Demands.{Hop};
 ghost use Rattle.cache.specs.Calls.{CacheSetUp, Finds, OldestIs, Placed, Touched, Inserted, Removed, HopGiven};
@@ -15,7 +16,7 @@ pub mod check;
 
 // What is found for an address: the slot of the entry that contains it; or, where none does, one more than the most bits
 // that any entry has in common with it, 0 where there is none; or a header that does not fit its store.
-#[derive(Drop)]
+#[derive(Clone, Copy)]
 pub enum Sought {
     Entry(u32),
     Nothing(u32),
@@ -23,7 +24,7 @@ pub enum Sought {
 }
 
 // The slot of the least recently used entry; or that there is no entry; or a store that is not sound.
-#[derive(Drop)]
+#[derive(Clone, Copy)]
 pub enum Last {
     Used(u32),
     Empty,
@@ -31,7 +32,7 @@ pub enum Last {
 }
 
 // What became of a change. A refusal leaves every word.
-#[derive(Drop)]
+#[derive(Clone, Copy)]
 pub enum Change {
     Made,
     Refused,
@@ -80,7 +81,7 @@ pub fn oldest(store: &[u32]) -> Last
 // ---- changes
 
 // A slot with an entry, and how many there are.
-#[derive(Drop)]
+#[derive(Clone, Copy)]
 enum Place {
     Among(u32),
     Nowhere,

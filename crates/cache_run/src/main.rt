@@ -1,6 +1,7 @@
 // Thousands of hits, insertions and removals in bad orders on a cache of limit 40. After each the store is checked and its
 // whole order of use goes into a digest; at the end the order is printed. What it prints was worked out beside it by another
 // program, over plain lists.
+#![tactic(auto)]
 ghost use Rattle.sizes.specs.BothStores.{Room};
 
 use cache::{Change, Last, Sought};
@@ -10,7 +11,7 @@ use slots::Shape;
 const TURNS: u32 = 6_000;
 
 // What happened so far. The counts wrap, which no run comes near; the digest stands for every order of use.
-#[derive(Drop)]
+#[derive(Clone, Copy)]
 struct Totals {
     seed: u64,
     hits: u64,
@@ -97,7 +98,7 @@ fn turn_once(store: &mut [u32], turn: u32, t: Totals) -> Totals {
 // ---- the order of use
 
 // The hop and the length of the entry in a slot, and the slot used before it.
-#[derive(Drop)]
+#[derive(Clone, Copy)]
 struct Seen {
     at: u32,
     digest: u64,

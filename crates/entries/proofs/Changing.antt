@@ -7,8 +7,8 @@ use lib.ListN.{drop}
 use lib.Seq.{drop-drop}
 use Rattle.prefix.specs.Prefix.{prefix_of}
 use Rattle.sizes.specs.Sizes.{cache_need}
-use Rattle.lru.specs.Slots.{Cache, branch_node, set_entry, set_branch_length, set_child, set_up, set_prev, set_next}
-use Rattle.lru.specs.Sound as lru
+use Rattle.lru_cache.specs.Slots.{Cache, branch_node, set_entry, set_branch_length, set_child, set_up, set_prev, set_next}
+use Rattle.lru_cache.specs.Sound as lru
 use Rattle.sizes.specs.BothStores.{limit_of, Room}
 use Rattle.slots.specs.Layout.{entries_held, cache_of, Shaped}
 use Rattle.slots.specs.Stores.{put_entry, put_prev, put_next, put_child, put_branch, put_up}

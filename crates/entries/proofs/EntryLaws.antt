@@ -16,8 +16,8 @@ use Rattle.prefix.proofs.Common.{common_sym, common_le}
 use Rattle.prefix.proofs.Order.{take_len}
 use Rattle.prefix.proofs.Tests.{contains_common}
 use Rattle.prefix.proofs.AddressLaws.{common_32, length_address, length_ipv4}
-use Rattle.lru.specs.Sound as lru
-use Rattle.lru.specs.Results.{Short}
+use Rattle.lru_cache.specs.Sound as lru
+use Rattle.lru_cache.specs.Results.{Short}
 use Rattle.sizes.specs.BothStores.{slot_word, word}
 use Rattle.slots.specs.Layout.{entries_held, cache_of}
 use Rattle.entries.specs.Caches.{entries}

@@ -15,10 +15,10 @@ use Rattle.prefix.proofs.Order.{⊑_refl}
 use Rattle.prefix.proofs.Tests.{⊑_contains, ⊑_not}
 use Rattle.model.specs.Lists.{largest}
 use Rattle.model.specs.Model.{Entry}
-use Rattle.lru.specs.Sound as lru
-use Rattle.lru.specs.Results as results
-use Rattle.lru.proofs.Walking.{find_nearest}
-use Rattle.lru.proofs.Holding.{entry_slot, nearest_largest}
+use Rattle.lru_cache.specs.Sound as lru
+use Rattle.lru_cache.specs.Results as results
+use Rattle.lru_cache.proofs.Walking.{find_nearest}
+use Rattle.lru_cache.proofs.Holding.{entry_slot, nearest_largest}
 use Rattle.sizes.specs.BothStores.{slot_word, word}
 use Rattle.slots.specs.Layout.{entries_held, cache_of}
 use Rattle.entries.specs.Caches.{entries, SoundEntries, NearestTo}

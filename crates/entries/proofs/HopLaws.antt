@@ -6,10 +6,10 @@ use native.Mathlib.Decide.{ℕ_discrete}
 use native.Mathlib.Omega.{arith}
 use borrow.Author.Tests.{eq-eqb, ne_eqb}
 use Rattle.trie.proofs.Stores.{upd_same, upd_other}
-use Rattle.lru.specs.Slots.{set_hop}
-use Rattle.lru.specs.Sound as lru
-use Rattle.lru.proofs.Orders.{ring_order, order_same, order_is}
-use Rattle.lru.proofs.Using.{hop_sound, entry_path, map_same}
+use Rattle.lru_cache.specs.Slots.{set_hop}
+use Rattle.lru_cache.specs.Sound as lru
+use Rattle.lru_cache.proofs.Orders.{ring_order, order_same, order_is}
+use Rattle.lru_cache.proofs.Using.{hop_sound, entry_path, map_same}
 use Rattle.sizes.specs.BothStores.{Room}
 use Rattle.slots.specs.Layout.{entries_held, cache_of, Shaped}
 use Rattle.slots.specs.Stores as slots

@@ -6,11 +6,11 @@ use native.Mathlib.Omega.{arith}
 use Rattle.trie.specs.Updates.{upd}
 use Rattle.trie.proofs.Stores.{upd_same, upd_other}
 use Rattle.prefix.specs.Bits.{Bits}
-use Rattle.lru.specs.Slots.{Cache, set_entry, set_child, set_up, set_prev, set_next}
-use Rattle.lru.specs.Sound.{InUse, SoundCache}
-use Rattle.lru.specs.Changes.{unlink, move_links}
-use Rattle.lru.proofs.Shape.{hangs, pointed, cell_low}
-use Rattle.lru.proofs.Orders.{ring_linked}
+use Rattle.lru_cache.specs.Slots.{Cache, set_entry, set_child, set_up, set_prev, set_next}
+use Rattle.lru_cache.specs.Sound.{InUse, SoundCache}
+use Rattle.lru_cache.specs.Changes.{unlink, move_links}
+use Rattle.lru_cache.proofs.Shape.{hangs, pointed, cell_low}
+use Rattle.lru_cache.proofs.Orders.{ring_linked}
 use Rattle.entries.specs.Changed.{Low}
 
 pub sound_low : {n : ℕ} {c : Cache} → SoundCache n c → Low n c

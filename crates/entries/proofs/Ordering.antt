@@ -3,10 +3,10 @@ use mathlib.Core.Path.{◌≡◌, ap, ◌∙◌}
 use mathlib.Core.List.{List, ◌∷◌}
 use Prim.Native.Nat.{ℕ, suc, ◌-◌, ◌≤◌, ◌<◌}
 use native.Mathlib.Omega.{arith}
-use Rattle.lru.specs.Slots.{Cache}
-use Rattle.lru.specs.Changes.{unlink, push_front, to_front, move_links}
-use Rattle.lru.proofs.Stores.{unlink_stores, push_stores, links_stores}
-use Rattle.lru.proofs.Using.{front_sound, front_entries, oldest_slot, oldest_last}
+use Rattle.lru_cache.specs.Slots.{Cache}
+use Rattle.lru_cache.specs.Changes.{unlink, push_front, to_front, move_links}
+use Rattle.lru_cache.proofs.Stores.{unlink_stores, push_stores, links_stores}
+use Rattle.lru_cache.proofs.Using.{front_sound, front_entries, oldest_slot, oldest_last}
 use Rattle.sizes.specs.BothStores.{slot_word, word}
 use Rattle.slots.specs.Layout.{entries_held, cache_of, Shaped}
 use Rattle.slots.specs.Stores.{put_prev, put_next}

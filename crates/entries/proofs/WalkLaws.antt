@@ -15,11 +15,11 @@ use Rattle.prefix.specs.declared.Address.{Address}
 use Rattle.prefix.proofs.Booleans.{not_false}
 use Rattle.prefix.proofs.BitLaws.{bit_small}
 use Rattle.prefix.proofs.AddressLaws.{length_ipv4}
-use Rattle.lru.specs.Slots.{cell_of}
-use Rattle.lru.specs.Sound.{Live}
-use Rattle.lru.specs.Changes.{passes, towards, walk}
-use Rattle.lru.proofs.Shape.{branch_short}
-use Rattle.lru.proofs.Walking.{find_start, passes_branch, stops_entry, stops_miss, walk_on, walk_end, on_start, on_step}
+use Rattle.lru_cache.specs.Slots.{cell_of}
+use Rattle.lru_cache.specs.Sound.{Live}
+use Rattle.lru_cache.specs.Changes.{passes, towards, walk}
+use Rattle.lru_cache.proofs.Shape.{branch_short}
+use Rattle.lru_cache.proofs.Walking.{find_start, passes_branch, stops_entry, stops_miss, walk_on, walk_end, on_start, on_step}
 use Rattle.sizes.specs.BothStores.{slot_word, word}
 use Rattle.slots.specs.Layout.{cell_word, entries_held, cache_of}
 use Rattle.slots.proofs.ReadLaws.{read_child, read_branch}

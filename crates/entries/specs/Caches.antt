@@ -6,8 +6,8 @@ use Rattle.sizes.specs.Sizes.{cache_need}
 use Rattle.model.specs.Lists.{◌∈◌, largest}
 use Rattle.model.specs.Model.{Entry, Cache}
 use Rattle.model.specs.Demands.{NoneCached}
-use Rattle.lru.specs.Sound as lru
-use Rattle.lru.specs.Results.{others}
+use Rattle.lru_cache.specs.Sound as lru
+use Rattle.lru_cache.specs.Results.{others}
 use Rattle.sizes.specs.BothStores.{limit_of}
 use Rattle.slots.specs.Layout.{entries_held, cache_of, Shaped, Plain}
 use Rattle.entries.specs.declared.find.Nearest.{Nearest}

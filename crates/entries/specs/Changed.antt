@@ -2,8 +2,8 @@
 -- slots. A number that is read from a store that is not sound may name no slot: then nothing is stored there. Assumes nothing.
 use Rattle.std.specs.Prelude.{◌≡◌, List, ℕ, ◌/◌, ◌≤◌}
 use Rattle.sizes.specs.Sizes.{largest_limit}
-use Rattle.lru.specs.Slots.{Cache}
-use Rattle.lru.specs.Sound.{Live, InUse}
+use Rattle.lru_cache.specs.Slots.{Cache}
+use Rattle.lru_cache.specs.Sound.{Live, InUse}
 use Rattle.sizes.specs.BothStores.{Room}
 use Rattle.slots.specs.Layout.{cache_of}
 use Rattle.slots.specs.Stores.{put_prev, put_next, Kept}

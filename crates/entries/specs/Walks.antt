@@ -2,9 +2,9 @@
 use Rattle.std.specs.Prelude.{◌≡◌, Bool, true, false, List, ℕ, ◌%◌, ◌≤◌, ◌<◌, leb}
 use Rattle.prefix.specs.Bits.{Bits}
 use Rattle.prefix.specs.Prefix.{common}
-use Rattle.lru.specs.Sound.{Live}
-use Rattle.lru.specs.Changes as walking
-use Rattle.lru.specs.Changes.{passes, towards, walk, find}
+use Rattle.lru_cache.specs.Sound.{Live}
+use Rattle.lru_cache.specs.Changes as walking
+use Rattle.lru_cache.specs.Changes.{passes, towards, walk, find}
 use Rattle.sizes.specs.BothStores.{slot_word, word}
 use Rattle.slots.specs.Layout.{entries_held, cache_of}
 use Rattle.entries.specs.Caches.{SoundEntries}

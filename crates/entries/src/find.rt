@@ -2,7 +2,7 @@
 ghost use Rattle.std.specs.Prelude.{◌≡◌, false, ◌/◌, ◌≤◌, ◌<◌, get_or};
 ghost use Rattle.prefix.specs.Addresses.{address_bits, ipv4_bits};
 ghost use Rattle.sizes.specs.Sizes.{largest_limit};
-ghost use Rattle.lru.specs.Slots.{cell_of};
+ghost use Rattle.lru_cache.specs.Slots.{cell_of};
 ghost use Rattle.sizes.specs.BothStores.{Room};
 ghost use Rattle.slots.specs.Layout.{entries_held, Shaped};
 ghost use Rattle.entries.specs.Caches.{NearestTo};
@@ -12,13 +12,13 @@ use prefix::Address;
 
 // What the entries say of an address: the one in this slot contains it; or none does, and then one more than the most bits
 // that any has in common with it, 0 where there is none.
-#[derive(Drop)]
+#[derive(Clone, Copy)]
 pub enum Nearest {
     Hit(u32),
     Miss(u32),
 }
 
-#[derive(Drop)]
+#[derive(Clone, Copy)]
 enum Turn {
     On(u32),
     End,

@@ -1,7 +1,7 @@
 // The order of use: a ring through all slots in use, from slot 0 by next to the most recently used first, and back to
 // slot 0 from the least recently used. A number that no sound store has is left alone.
 ghost use Rattle.std.specs.Prelude.{◌≡◌, ◌∷◌, ◌<◌, ◌≤◌};
-ghost use Rattle.lru.specs.Changes.{unlink as unlinked, push_front, move_links};
+ghost use Rattle.lru_cache.specs.Changes.{unlink as unlinked, push_front, move_links};
 ghost use Rattle.slots.specs.Layout.{entries_held, cache_of, Shaped};
 ghost use Rattle.entries.specs.Caches.{Slot, entry_in, others_in, SoundEntries, Kept, Holds, Oldest};
 ghost use Rattle.entries.specs.Changed.{Slots, Changed, Linked, between};

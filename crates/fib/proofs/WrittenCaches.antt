@@ -14,15 +14,15 @@ use Rattle.sizes.specs.Sizes.{LegalLimit, cache_need}
 use Rattle.model.specs.Lists.{◌∈◌}
 use Rattle.model.specs.Model as model
 use Rattle.model.specs.Demands.{NoOverlap, NoLonger}
-use Rattle.lru.specs.Slots.{Cache, entry_node, branch_node, cell_of}
-use Rattle.lru.specs.Sound.{Slot, Live, InUse, SoundCache, entry_of}
-use Rattle.lru.specs.Sound as lru
-use Rattle.lru.specs.Results.{Agree, Carried}
-use Rattle.lru.proofs.Orders.{ring_linked}
-use Rattle.lru.proofs.Shape.{cell_low, pointed, hangs, branch_short}
-use Rattle.lru.proofs.Agreeing.{agree_sound, agree_entries}
-use Rattle.lru.proofs.Holding.{slot_entry}
-use Rattle.lru.proofs.Carrying.{carried}
+use Rattle.lru_cache.specs.Slots.{Cache, entry_node, branch_node, cell_of}
+use Rattle.lru_cache.specs.Sound.{Slot, Live, InUse, SoundCache, entry_of}
+use Rattle.lru_cache.specs.Sound as lru
+use Rattle.lru_cache.specs.Results.{Agree, Carried}
+use Rattle.lru_cache.proofs.Orders.{ring_linked}
+use Rattle.lru_cache.proofs.Shape.{cell_low, pointed, hangs, branch_short}
+use Rattle.lru_cache.proofs.Agreeing.{agree_sound, agree_entries}
+use Rattle.lru_cache.proofs.Holding.{slot_entry}
+use Rattle.lru_cache.proofs.Carrying.{carried}
 use Rattle.sizes.specs.BothStores.{slot_word, word, limit_of}
 use Rattle.slots.specs.Layout.{cell_word, entries_held, up_in, cache_of, packed}
 use Rattle.entries.specs.Caches.{entries, SoundEntries}

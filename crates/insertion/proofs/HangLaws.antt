@@ -15,16 +15,16 @@ use Rattle.prefix.proofs.Common.{common_lt}
 use Rattle.prefix.proofs.Order.{take_⊑}
 use Rattle.prefix.proofs.Tests.{apart_not}
 use Rattle.prefix.proofs.AddressLaws.{length_ipv4}
-use Rattle.lru.specs.Slots.{Cache, entry_node, branch_node, cell_of, set_entry, set_branch_length, set_child, set_up}
-use Rattle.lru.specs.Sound as lru
-use Rattle.lru.specs.Changes.{push_front, insert_first, hang, insert_at}
-use Rattle.lru.specs.Results as results
-use Rattle.lru.proofs.Stores.{first_stores, hang_stores}
-use Rattle.lru.proofs.Shape.{hangs}
-use Rattle.lru.specs.Changes.{On}
-use Rattle.lru.proofs.Walking.{find_ends}
-use Rattle.lru.proofs.Holding.{entries_free}
-use Rattle.lru.proofs.Inserting.{insert_first_inserts, insert_found}
+use Rattle.lru_cache.specs.Slots.{Cache, entry_node, branch_node, cell_of, set_entry, set_branch_length, set_child, set_up}
+use Rattle.lru_cache.specs.Sound as lru
+use Rattle.lru_cache.specs.Changes.{push_front, insert_first, hang, insert_at}
+use Rattle.lru_cache.specs.Results as results
+use Rattle.lru_cache.proofs.Stores.{first_stores, hang_stores}
+use Rattle.lru_cache.proofs.Shape.{hangs}
+use Rattle.lru_cache.specs.Changes.{On}
+use Rattle.lru_cache.proofs.Walking.{find_ends}
+use Rattle.lru_cache.proofs.Holding.{entries_free}
+use Rattle.lru_cache.proofs.Inserting.{insert_first_inserts, insert_found}
 use Rattle.sizes.specs.BothStores.{limit_of, Room}
 use Rattle.slots.specs.Layout.{entries_held, up_in, cache_of, Shaped}
 use Rattle.slots.specs.Stores.{put_entry, put_child, put_up}

@@ -5,7 +5,7 @@ use Prim.Native.Nat.{ℕ, suc, ◌+◌, ◌≤◌, ◌<◌}
 use native.Mathlib.Omega.{arith}
 use lib.ListN.{length}
 use Rattle.prefix.specs.Bits.{Bits}
-use Rattle.lru.specs.Changes.{push_front}
+use Rattle.lru_cache.specs.Changes.{push_front}
 use Rattle.sizes.specs.BothStores.{limit_of}
 use Rattle.slots.specs.Layout.{entries_held, cache_of, Shaped}
 use Rattle.slots.specs.Stores.{put_count}

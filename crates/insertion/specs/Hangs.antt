@@ -1,8 +1,8 @@
 -- A new entry in the slot after those in use: its place in the search trie, before it has one in the order of use. Assumes nothing.
 use Rattle.std.specs.Prelude.{◌≡◌, List, ℕ, suc, ◌+◌, ◌-◌, ◌*◌, ◌/◌, ◌≤◌, ◌<◌}
 use Rattle.prefix.specs.Bits.{Bits}
-use Rattle.lru.specs.Changes.{push_front}
-use Rattle.lru.specs.Results.{Inserted}
+use Rattle.lru_cache.specs.Changes.{push_front}
+use Rattle.lru_cache.specs.Results.{Inserted}
 use Rattle.slots.specs.Layout.{entries_held, up_in, cache_of, Plain}
 use Rattle.slots.specs.Stores.{put_child, put_branch, put_up, Kept}
 use Rattle.entries.specs.Caches.{Free, SoundEntries}

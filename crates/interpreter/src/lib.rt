@@ -1,4 +1,5 @@
 // One line of a script: its call is made on the two stores, and what it answers is said.
+#![tactic(auto)]
 ghost use Rattle.std.specs.Prelude.{◌≡◌};
 ghost use Rattle.model.specs.Runs.{look as looks};
 ghost use Rattle.prefix.specs.Bits.{bits};
@@ -12,7 +13,7 @@ use tallies::Tallies;
 use updates::{Action, Update};
 
 // What a line is answered, and the tallies after it.
-#[derive(Drop)]
+#[derive(Clone, Copy)]
 pub struct Answered {
     pub said: Said,
     pub tallies: Tallies,
@@ -32,7 +33,7 @@ pub fn answer_line(table: &mut [u32], cache: &mut [u32], t: Tallies, line: Line)
 }
 
 // What a line asks of the stores. Announcements and withdrawals are one call, which then stands in one place.
-#[derive(Drop)]
+#[derive(Clone, Copy)]
 enum Asked {
     Update(Update),
     Look(u32),

@@ -14,7 +14,7 @@ use Rattle.koprzywist.specs.Blocks.{from, Stopped, Lines, at_start, and_line, an
 use Rattle.koprzywist.specs.declared.Reached.{Reached}
 
 module _ {block table cache out : List ℕ} {r : Reached} where
-  pub and_lines : {t c o t' c' o' : List ℕ} {p q : Reached} → Lines block table cache out r t c o p → Lines block t c o p t' c' o' q → Lines block table cache out r t' c' o' q
+  pub and_lines : {p : Reached} {t c o t' c' o' : List ℕ} {q : Reached} → Lines block table cache out r t c o p → Lines block t c o p t' c' o' q → Lines block table cache out r t' c' o' q
   and_lines K at_start = K
   and_lines K (and_line M S) = and_line (and_lines K M) S
   and_lines K (and_written M) = and_written (and_lines K M)

@@ -1,6 +1,7 @@
 // The script program: reads calls from standard input, a line each, and prints their answers. The stores are its own: a
 // table of 512 routes and a cache of 3 entries. Input is read and output is written in blocks, so that memory is constant
 // whatever the length of the script.
+#![tactic(auto)]
 ghost use Rattle.std.specs.Prelude.{◌+◌, ◌≡◌, ltb};
 ghost use Rattle.answers.specs.Answers.{room};
 ghost use Rattle.koprzywist.specs.Blocks.{Stepped, Lines, Stopped, BlockAnswered};
@@ -22,7 +23,7 @@ const ROOM: usize = 64;
 // ---- a block of lines
 
 // How far a block was read, and what its lines left: the tallies, and how many bytes of the output wait to be written.
-#[derive(Drop)]
+#[derive(Clone, Copy)]
 struct Reached {
     at: usize,
     waiting: usize,
@@ -30,7 +31,7 @@ struct Reached {
 }
 
 // What a step through a block found: a line that was answered, or no whole line that the output has room for.
-#[derive(Drop)]
+#[derive(Clone, Copy)]
 enum Step {
     Line(Reached),
     End,
@@ -101,7 +102,7 @@ fn write_out(out: &[u8], n: usize) -> bool {
 }
 
 // A block that was answered: where its whole lines end, the tallies after them, and whether all answers could be written.
-#[derive(Drop)]
+#[derive(Clone, Copy)]
 struct Written {
     end: usize,
     tallies: Tallies,
@@ -154,7 +155,7 @@ fn answer_block(
 // ---- the input
 
 // How many bytes at the start of the buffer belong to a line that has not ended, and what the lines before it left.
-#[derive(Drop)]
+#[derive(Clone, Copy)]
 struct Held {
     bytes: usize,
     tallies: Tallies,
@@ -200,7 +201,7 @@ fn read_more(input: &mut [u8], held: usize) -> usize {
     io::count(got, part)
 }
 
-#[derive(Drop)]
+#[derive(Clone, Copy)]
 enum More {
     Yes(Held),
     No,

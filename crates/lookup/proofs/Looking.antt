@@ -29,9 +29,9 @@ use Rattle.model.proofs.ListLaws.{first_in}
 use Rattle.model.proofs.Match.{match_longest, new_≤, stored_storable}
 use Rattle.model.proofs.Descent.{new_split}
 use Rattle.model.proofs.Legal.{legal_lookup}
-use Rattle.lru.specs.Sound as lru
-use Rattle.lru.proofs.Shape.{no_overlap}
-use Rattle.lru.proofs.Holding.{first_entry, omit_entry}
+use Rattle.lru_cache.specs.Sound as lru
+use Rattle.lru_cache.proofs.Shape.{no_overlap}
+use Rattle.lru_cache.proofs.Holding.{first_entry, omit_entry}
 use Rattle.slots.specs.Layout.{entries_held, cache_of}
 use Rattle.slots.specs.Headers.{HeaderRead}
 use Rattle.slots.specs.declared.Header.{Header}

@@ -1,5 +1,6 @@
 // The public lookup in a pair of stores that the caller lends: a hit in the cache, a miss that stores an entry, or a drop. It
 // takes every address and every content of the stores, and ends; from a sound pair it does what the model says and leaves it sound.
+#![tactic(auto)]
 ghost use Rattle.std.specs.Prelude.{◌≡◌, max, ◌≤◌, take};
 ghost use Rattle.prefix.specs.Addresses.{ipv4_bits};
 ghost use Rattle.sizes.specs.BothStores.{limit_of};
@@ -16,7 +17,7 @@ use search::Found;
 use slots::{Header, Shape};
 use tallies::Tallies;
 
-#[derive(Drop)]
+#[derive(Clone, Copy)]
 pub enum Answer {
     // hop
     Hit(u32),
@@ -28,7 +29,7 @@ pub enum Answer {
     Unsound,
 }
 
-#[derive(Drop)]
+#[derive(Clone, Copy)]
 pub struct Looked {
     pub answer: Answer,
     pub tallies: Tallies,
@@ -138,7 +139,7 @@ fn stored_address(x: Address, n: u32) -> u32
     prefix::to_ipv4(prefix::trim_high(x, n))
 }
 
-#[derive(Drop)]
+#[derive(Clone, Copy)]
 enum Room {
     For(u32),
     Nowhere,

@@ -40,12 +40,12 @@ module _ {A : Type 0} where
       go (inl h) rec = (Memᴰ.head h.1, ap f h.1 ∙ h.0)
       go (inr k) rec = (Memᴰ.tail (rec k).0, (rec k).1)
 
-  pub in_keep : (f : A → Bool) {l : List A} {x : A} → x ∈ l → f x ≡ true → x ∈ keep f l
+  pub in_keep : (f : A → Bool) {x : A} {l : List A} → x ∈ l → f x ≡ true → x ∈ keep f l
   unfolding keep
   in_keep f (Memᴰ.head {x = a} e) h = rw (sym (ap f e) ∙ h) (Memᴰ.head e)
   in_keep f (Memᴰ.tail {x = a} m) h = in_cond (f a) a (in_keep f m h)
 
-  pub in_any : (f : A → Bool) {l : List A} {x : A} → x ∈ l → f x ≡ true → any f l ≡ true
+  pub in_any : (f : A → Bool) {x : A} {l : List A} → x ∈ l → f x ≡ true → any f l ≡ true
   unfolding any
   in_any f (Memᴰ.head {x = a} e) h = rw (sym (ap f e) ∙ h)
   in_any f (Memᴰ.tail {x = a} m) h = or_right (f a) _ (in_any f m h)
@@ -76,7 +76,7 @@ module _ {A : Type 0} where
 
   pub first_none : (f : A → Bool) {l : List A} {x : A} → first f l ≡ none → x ∈ l → f x ≡ false
   unfolding first
-  first_none f {l = a ∷ l} {x} e m = go (f a) refl e (Memᴰ.cases_cons m) (λ h k. first_none f h k)
+  first_none f {l = a ∷ l} {x} e m = go (f a) refl e (Memᴰ.cases_cons m) (λ h k. first_none f {l = l} h k)
     where
       go : (b : Bool) → f a ≡ b → cond b (some a) (first f l) ≡ none → (x ≡ a) ⊎ (x ∈ l) → (first f l ≡ none → x ∈ l → f x ≡ false) → f x ≡ false
       go true h e m rec = absurd (some-ne-none a e)
@@ -115,7 +115,7 @@ module _ {A : Type 0} where
       go true h = omega arith
       go false h = omega arith
 
-  pub keep_lt : (f : A → Bool) {l : List A} {x : A} → x ∈ l → f x ≡ false → length (keep f l) < length l
+  pub keep_lt : (f : A → Bool) {x : A} {l : List A} → x ∈ l → f x ≡ false → length (keep f l) < length l
   unfolding keep
   keep_lt f (Memᴰ.head {x = a} {xs = l} e) h = rw (sym (ap f e) ∙ h) (omega (arith, keep_length f l))
   keep_lt f (Memᴰ.tail {x = a} {xs = l} m) h = go (f a) (keep_lt f m h)
@@ -285,7 +285,7 @@ module _ {A : Type 0} where
     pub one_less : length k ≡ suc (length rest)
     pub others : (y : A) → y ∈ k → ¬ (x ≡ y) → y ∈ rest
 
-  less_one : {k : List A} {x : A} → x ∈ k → Less k x
+  less_one : {x : A} {k : List A} → x ∈ k → Less k x
   less_one {x} (Memᴰ.head {x = a} {xs = l} e) = record { rest = l; one_less = refl; others = λ y m n. go y n (Memᴰ.cases_cons m) }
     where
       go : (y : A) → ¬ (x ≡ y) → (y ≡ a) ⊎ (y ∈ l) → y ∈ l
@@ -344,7 +344,7 @@ module _ {A B : Type 0} where
       go (inl e) rec = (a, Memᴰ.head refl, e)
       go (inr k) rec = let r = rec k in (r.0, Memᴰ.tail r.1, r.2)
 
-  pub in_map : (g : A → B) {l : List A} {x : A} → x ∈ l → g x ∈ map g l
+  pub in_map : (g : A → B) {x : A} {l : List A} → x ∈ l → g x ∈ map g l
   in_map g (Memᴰ.head e) = Memᴰ.head (ap g e)
   in_map g (Memᴰ.tail m) = Memᴰ.tail (in_map g m)
 
@@ -361,14 +361,14 @@ module _ {A B : Type 0} where
       go (inl k) rec = (a, Memᴰ.head refl, k)
       go (inr k) rec = let r = rec k in (r.0, Memᴰ.tail r.1, r.2)
 
-  pub in_flat : (g : A → List B) {l : List A} {x : A} {y : B} → x ∈ l → y ∈ g x → y ∈ flat_map g l
+  pub in_flat : (g : A → List B) {x : A} {l : List A} {y : B} → x ∈ l → y ∈ g x → y ∈ flat_map g l
   unfolding flat_map
   in_flat g {y} (Memᴰ.head {x = a} {xs = l} e) k = Memᴰ.append_left (flat_map g l) (rw e at k)
   in_flat g (Memᴰ.tail {x = a} m) k = Memᴰ.append_right (g a) (in_flat g m k)
 
 -- ---- the largest number
 
-pub le_largest : {l : List ℕ} {n : ℕ} → n ∈ l → n ≤ largest l
+pub le_largest : {n : ℕ} {l : List ℕ} → n ∈ l → n ≤ largest l
 unfolding largest
 le_largest (Memᴰ.head e) = rw e (omega arith)
 le_largest (Memᴰ.tail m) = omega (arith, le_largest m)

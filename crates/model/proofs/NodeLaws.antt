@@ -221,6 +221,7 @@ unfolding towards contains
 take_towards X [] p h l e = absurd (not-suc-le-zero l)
 take_towards (c ∷ X) (b ∷ v) [] h l (⊑cons g e) = rw (g, beq_refl c)
 take_towards (c ∷ X) (b ∷ v) (a ∷ p) (⊑cons f h) l (⊑cons g e) = rw (f ∙ g, beq_refl c) (take_towards X v p h (le_of_suc-le-suc l) e)
+take_towards [] (b ∷ v) p h l e = elim e [ ]
 
 pub examined_way : (t : Table) (X v : Bits) → length v ≤ length X → is_examined (nodes t) X v ≡ true → OnWay t X v
 unfolding is_examined

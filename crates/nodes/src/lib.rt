@@ -8,6 +8,7 @@
 // left and right are the nodes below, for the next bit 0 and 1; up is the cell that points here. A cell is a place for a
 // node number: cell 0 is the root, cell 2 p + b the side b of node p, and cell q is word 1,016 + 8 (q / 2) + 3 + q % 2,
 // with no case for the root.
+#![tactic(auto)]
 ghost use Rattle.std.specs.Prelude.{◌≡◌, ◌/◌, length, take};
 ghost use Rattle.prefix.specs.Bits.{bits};
 ghost use Rattle.prefix.specs.Addresses.{address_bits};
@@ -32,14 +33,14 @@ const SLOTS: usize = 1016;
 
 // ---- the header
 
-#[derive(Drop)]
+#[derive(Clone, Copy)]
 pub struct Header {
     pub limit: u32,
     pub nodes: u32,
     pub routes: u32,
 }
 
-#[derive(Drop)]
+#[derive(Clone, Copy)]
 pub enum Shape {
     Fits(Header),
     Broken,
@@ -158,7 +159,7 @@ pub fn set_child(store: &mut [u32], cell: u32, p: u32)
 
 // ---- a node by value
 
-#[derive(Drop)]
+#[derive(Clone, Copy)]
 pub struct Node {
     pub address: u32,
     pub length: u32,

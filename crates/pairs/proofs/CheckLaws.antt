@@ -20,8 +20,8 @@ use Rattle.model.specs.Routes.{Route, match}
 use Rattle.model.specs.Model.{Entry}
 use Rattle.model.specs.Demands.{Covered}
 use Rattle.model.proofs.ListLaws.{any_false, none_any}
-use Rattle.lru.specs.Sound as lru
-use Rattle.lru.proofs.Holding.{slot_entry, entry_slot}
+use Rattle.lru_cache.specs.Sound as lru
+use Rattle.lru_cache.proofs.Holding.{slot_entry, entry_slot}
 use Rattle.sizes.specs.BothStores.{slot_word, word}
 use Rattle.slots.specs.Layout.{entries_held, cache_of}
 use Rattle.slots.specs.Headers.{HeaderRead}

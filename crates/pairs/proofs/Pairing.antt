@@ -10,8 +10,8 @@ use Rattle.model.specs.Lists.{◌∈◌}
 use Rattle.model.specs.Model.{Entry}
 use Rattle.model.specs.Demands.{Hop, Legal, NoLonger}
 use Rattle.trie.proofs.Holding.{in_held, routes_distinct}
-use Rattle.lru.specs.Sound as lru
-use Rattle.lru.proofs.Holding.{entries_length, entry_slot, entries_apart}
+use Rattle.lru_cache.specs.Sound as lru
+use Rattle.lru_cache.proofs.Holding.{entries_length, entry_slot, entries_apart}
 use Rattle.sizes.specs.BothStores.{word, slot_word}
 use Rattle.nodes.specs.Layout.{trie_of, nodes_of}
 use Rattle.slots.specs.Layout.{entries_held, cache_of}

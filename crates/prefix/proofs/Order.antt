@@ -85,6 +85,8 @@ below_is p b q = (to, from p q)
     from : (p q : Bits) → p ++ (b ∷ []) ⊑ q → Below p b q
     from [] (c ∷ q) (⊑cons e h) = here e
     from (a ∷ p) (c ∷ q) (⊑cons e h) = there e (from p q h)
+    from [] [] x'' = elim x'' [ ]
+    from (a ∷ p) [] x3 = elim x3 [ ]
 
 pub below_⊑ : {p q : Bits} {b : Bool} → Below p b q → p ⊑ q
 below_⊑ (here e) = ⊑nil

@@ -3,12 +3,13 @@
 // alone: each function has a twin, `.._high`, that does so, for prefixes of at most 64 bits.
 //
 // A prefix is an address and a length. What each function answers is said by the list of the address's bits.
+#![tactic(auto)]
 ghost use Rattle.std.specs.Prelude.{◌≡◌, false, ◌≤◌, ◌<◌, min, get_or, take};
 ghost use Rattle.prefix.specs.Bits.{bits, digit};
 ghost use Rattle.prefix.specs.Prefix.{contains, common, trimmed};
 ghost use Rattle.prefix.specs.Addresses.{address_bits};
 
-#[derive(Drop)]
+#[derive(Clone, Copy)]
 pub struct Address {
     pub high: u64,
     pub low: u64,

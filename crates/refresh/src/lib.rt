@@ -1,6 +1,7 @@
 // The public update of a pair of stores that the caller lends: the table first, then the entries that overlap the prefix. It
 // takes every update and every content of the stores, and ends; from a sound pair it does what the model says and leaves it
 // sound.
+#![tactic(auto)]
 ghost use Rattle.std.specs.Prelude.{◌≡◌};
 ghost use Rattle.updates.specs.Updates.{first_refusal};
 ghost use Rattle.refresh.specs.Promises.{UpdatePromise, unfit_number, refused_by, Numbered};
@@ -9,7 +10,7 @@ use slots::Shape;
 use tallies::Tallies;
 use updates::Update;
 
-#[derive(Drop)]
+#[derive(Clone, Copy)]
 pub struct Updated {
     // 0, or the number of the refusal
     pub number: u32,

@@ -11,15 +11,15 @@ use Rattle.prefix.specs.Bits.{one?}
 use Rattle.model.specs.Lists.{◌∈◌}
 use Rattle.trie.specs.Updates.{renumbered}
 use Rattle.trie.proofs.Moving.{renumbered_s, renumbered_other}
-use Rattle.lru.specs.Slots.{Cache, entry_node, root_cell, set_child}
-use Rattle.lru.specs.Sound.{Slot, InUse, SoundCache, entry_of, order}
-use Rattle.lru.specs.Changes.{unlink, remove_only, remove_at}
-use Rattle.lru.specs.Results.{without, Removed, place_after}
-use Rattle.lru.proofs.Rings.{mem_ne, without_sub, without_gone}
-use Rattle.lru.proofs.Orders.{Order, ring_order, in_slot, order_all, order_distinct}
-use Rattle.lru.proofs.Shape.{hangs, cell_low}
-use Rattle.lru.proofs.Stores.{only_stores}
-use Rattle.lru.proofs.Removing.{remove_entry, remove_only_removes, only_entry}
+use Rattle.lru_cache.specs.Slots.{Cache, entry_node, root_cell, set_child}
+use Rattle.lru_cache.specs.Sound.{Slot, InUse, SoundCache, entry_of, order}
+use Rattle.lru_cache.specs.Changes.{unlink, remove_only, remove_at}
+use Rattle.lru_cache.specs.Results.{without, Removed, place_after}
+use Rattle.lru_cache.proofs.Rings.{mem_ne, without_sub, without_gone}
+use Rattle.lru_cache.proofs.Orders.{Order, ring_order, in_slot, order_all, order_distinct}
+use Rattle.lru_cache.proofs.Shape.{hangs, cell_low}
+use Rattle.lru_cache.proofs.Stores.{only_stores}
+use Rattle.lru_cache.proofs.Removing.{remove_entry, remove_only_removes, only_entry}
 use Rattle.sizes.specs.BothStores.{limit_of, Room}
 use Rattle.slots.specs.Layout.{up_in, entries_held, cache_of, Shaped}
 use Rattle.slots.specs.Stores.{put_child, put_count}

@@ -8,8 +8,8 @@ use native.Mathlib.Omega.{arith}
 use lib.Dec.{eqb}
 use borrow.Author.Tests.{eq-eqb, ne_eqb}
 use Rattle.prefix.proofs.BitLaws.{digit_below}
-use Rattle.lru.specs.Slots.{Cache, entry_node, branch_node, cell_of}
-use Rattle.lru.specs.Changes.{prune, move_entry, fill_entry}
+use Rattle.lru_cache.specs.Slots.{Cache, entry_node, branch_node, cell_of}
+use Rattle.lru_cache.specs.Changes.{prune, move_entry, fill_entry}
 use Rattle.entries.specs.Changed.{Low}
 use Rattle.entries.proofs.Lows.{low_child, low_up, low_entry, low_links}
 use Rattle.removal.specs.Removal.{hung}

@@ -9,9 +9,9 @@ use native.Mathlib.Omega.{arith}
 use borrow.Author.Tests.{eq-eqb, ne_eqb}
 use Rattle.prefix.specs.Bits.{bits, one?, digit}
 use Rattle.prefix.proofs.BitLaws.{digit_below}
-use Rattle.lru.specs.Slots.{Cache, branch_node, cell_of, set_entry, set_branch_length, set_child, set_up}
-use Rattle.lru.specs.Changes.{unlink, move_links, prune, move_entry, move_branch, fill_entry, fill_slot, remove_at}
-use Rattle.lru.proofs.Stores.{prune_stores, entry_stores, branch_stores}
+use Rattle.lru_cache.specs.Slots.{Cache, branch_node, cell_of, set_entry, set_branch_length, set_child, set_up}
+use Rattle.lru_cache.specs.Changes.{unlink, move_links, prune, move_entry, move_branch, fill_entry, fill_slot, remove_at}
+use Rattle.lru_cache.proofs.Stores.{prune_stores, entry_stores, branch_stores}
 use Rattle.sizes.specs.BothStores.{slot_word, word}
 use Rattle.slots.specs.Layout.{cell_word, up_in, cache_of, Plain}
 use Rattle.slots.specs.Stores.{put_entry, put_child, put_up}

@@ -1,8 +1,8 @@
 -- What the steps of a removal leave. Assumes nothing.
 use Rattle.std.specs.Prelude.{◌≡◌, List, ℕ, ◌+◌, ◌-◌, ◌*◌, ◌<◌}
-use Rattle.lru.specs.Slots.{Cache, set_child, set_up}
-use Rattle.lru.specs.Sound.{Slot, SoundCache, entry_of, entries}
-use Rattle.lru.specs.Results.{others}
+use Rattle.lru_cache.specs.Slots.{Cache, set_child, set_up}
+use Rattle.lru_cache.specs.Sound.{Slot, SoundCache, entry_of, entries}
+use Rattle.lru_cache.specs.Results.{others}
 use Rattle.slots.specs.Layout.{cache_of, Plain}
 use Rattle.slots.specs.Stores.{put_child, put_branch, put_up, Kept}
 use Rattle.entries.specs.Changed.{Low}

@@ -1,9 +1,10 @@
 // An entry leaves a cache store. Entries fill the slots 1 to n without gaps: when one goes, the entry whose branch has no more
 // use moves into its slot, and the last slot into that one's. A number that no sound store has is left alone.
+#![tactic(auto)]
 ghost use Rattle.std.specs.Prelude.{◌≡◌, ◌-◌, ◌/◌, ◌%◌, ◌<◌, ◌≤◌};
 ghost use Rattle.prefix.specs.Bits.{one?};
-ghost use Rattle.lru.specs.Slots.{set_entry};
-ghost use Rattle.lru.specs.Changes.{prune as pruned, move_entry, move_branch, fill_entry, fill_slot, remove_at};
+ghost use Rattle.lru_cache.specs.Slots.{set_entry};
+ghost use Rattle.lru_cache.specs.Changes.{prune as pruned, move_entry, move_branch, fill_entry, fill_slot, remove_at};
 ghost use Rattle.slots.specs.Layout.{entries_held, cache_of, Shaped, Plain};
 ghost use Rattle.entries.specs.Caches.{Slot, SoundEntries, Kept, Removes};
 ghost use Rattle.entries.specs.Changed.{Slots, Changed};

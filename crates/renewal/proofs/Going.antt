@@ -8,7 +8,7 @@ use Rattle.sizes.specs.Sizes.{cache_need}
 use Rattle.model.specs.Lists.{◌∈◌}
 use Rattle.model.specs.Routes as model
 use Rattle.model.specs.Model.{Entry}
-use Rattle.lru.proofs.Holding.{entry_slot}
+use Rattle.lru_cache.proofs.Holding.{entry_slot}
 use Rattle.slots.specs.Layout.{entries_held, Shaped}
 use Rattle.table.specs.Tables.{routes}
 use Rattle.entries.specs.Caches.{entries, SoundEntries, Slot, entry_in, Kept}

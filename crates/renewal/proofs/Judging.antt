@@ -32,7 +32,7 @@ use Rattle.search.specs.Matches.{found_for}
 use Rattle.search.specs.Standings.{Judged, JudgedAt}
 use Rattle.search.specs.declared.Found.TheVariants.{Match, Nothing}
 use Rattle.search.specs.declared.Standing.{Standing}
-use Rattle.lru.proofs.Holding.{slot_entry}
+use Rattle.lru_cache.proofs.Holding.{slot_entry}
 use Rattle.entries.specs.Caches.{entries, SoundEntries, entry_in}
 use Rattle.updates.specs.Updates.{action_of, prefix_of_update, update_of}
 use Rattle.updates.specs.declared.Action.TheVariants.{Announce, Withdraw}

@@ -14,8 +14,8 @@ use Rattle.model.specs.Routes.{Table, Update}
 use Rattle.model.specs.Model.{Entry, Cache, leaves, fresh, refreshed, removed, changed}
 use Rattle.model.proofs.ListLaws.{keep_both}
 use Rattle.trie.proofs.Pigeonhole.{Distinct}
-use Rattle.lru.proofs.Using.{map_same}
-use Rattle.lru.proofs.Rings.{mem_ne}
+use Rattle.lru_cache.proofs.Using.{map_same}
+use Rattle.lru_cache.proofs.Rings.{mem_ne}
 use Rattle.renewal.specs.Passes.{Right}
 
 module _ (T : Table) (u : Update) where

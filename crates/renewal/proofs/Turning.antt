@@ -12,11 +12,11 @@ use borrow.Author.Tests.{eq-eqb, ne_eqb}
 use Rattle.model.specs.Lists.{◌∈◌, keep}
 use Rattle.model.specs.Routes.{Table, Update}
 use Rattle.model.specs.Model.{Entry, Cache, leaves, fresh, refreshed, removed, changed}
-use Rattle.lru.specs.Sound as lru
-use Rattle.lru.specs.Results.{without}
-use Rattle.lru.proofs.Rings.{without_sub}
-use Rattle.lru.proofs.Orders.{ring_order, order_all, order_distinct}
-use Rattle.lru.proofs.Holding.{keep_others, slot_entry, entry_slot}
+use Rattle.lru_cache.specs.Sound as lru
+use Rattle.lru_cache.specs.Results.{without}
+use Rattle.lru_cache.proofs.Rings.{without_sub}
+use Rattle.lru_cache.proofs.Orders.{ring_order, order_all, order_distinct}
+use Rattle.lru_cache.proofs.Holding.{keep_others, slot_entry, entry_slot}
 use Rattle.sizes.specs.BothStores.{slot_word, word}
 use Rattle.slots.specs.Layout.{entries_held, cache_of, Shaped}
 use Rattle.entries.specs.Caches.{entries, SoundEntries, Slot, entry_in, with_hop, rehopped, Kept, Removes, Rehops}

@@ -1,5 +1,6 @@
 // What a line of bytes asks for. A line is read where it stands in a block, up to its line feed: each number is the digits from a place
 // on, and the byte after them tells how the line goes on.
+#![tactic(auto)]
 ghost use Rattle.std.specs.Prelude.{◌≡◌, not, [], ◌∷◌, ◌+◌, ◌*◌, ◌≤◌, drop};
 ghost use Rattle.std.proofs.Math.Option.{some};
 ghost use Rattle.script.specs.Lines.{parts, both, numbers, fields, space, largest};
@@ -17,7 +18,7 @@ const POINT: u8 = b'.';
 const FEED: u8 = b'\n';
 
 // What a line asks for. An address is one number, the first octet highest.
-#[derive(Drop)]
+#[derive(Clone, Copy)]
 pub enum Line {
     // address, length and hop
     Announce(u32, u32, u32),
@@ -31,7 +32,7 @@ pub enum Line {
 // ---- numbers
 
 // A number that was read, and the place after it.
-#[derive(Drop)]
+#[derive(Clone, Copy)]
 enum Found {
     Number(u32, usize),
     Nothing,
@@ -131,7 +132,7 @@ fn address(block: &[u8], at: usize) -> Found
 // ---- lines
 
 // What was read of a line, and a place up to which it has no line feed: the search for it goes on from there.
-#[derive(Drop)]
+#[derive(Clone, Copy)]
 struct Seen {
     line: Line,
     to: usize,
@@ -245,7 +246,7 @@ fn read_fields(block: &[u8], at: usize) -> Seen
 }
 
 // What a line asks for, and where its line feed is; or that there is no line feed.
-#[derive(Drop)]
+#[derive(Clone, Copy)]
 pub enum Read {
     Line(Line, usize),
     None,
@@ -269,7 +270,7 @@ pub fn read_line(block: &[u8], at: usize) -> Read
 // ---- line feeds
 
 // Where a line feed is, or that there is none.
-#[derive(Drop)]
+#[derive(Clone, Copy)]
 enum Next {
     At(usize),
     None,

@@ -1,4 +1,5 @@
 // Longest match over a table store, and what the table says of a prefix.
+#![tactic(auto)]
 ghost use Rattle.std.specs.Prelude.{◌≡◌, suc, ◌-◌, ◌≤◌, ◌<◌, take};
 ghost use Rattle.prefix.specs.Prefix.{common};
 ghost use Rattle.prefix.specs.Addresses.{ipv4_bits};
@@ -16,13 +17,13 @@ use prefix::Address;
 use table::Stop;
 
 // The hop and the length of the longest route that contains the address.
-#[derive(Drop)]
+#[derive(Clone, Copy)]
 pub enum Found {
     Match(u32, u32),
     Nothing,
 }
 
-#[derive(Drop)]
+#[derive(Clone, Copy)]
 pub struct Answer {
     pub found: Found,
     // nodes examined
@@ -142,7 +143,7 @@ fn has_child(store: &[u32], p: u32) -> bool
 // ---- a prefix
 
 // What a table says of a prefix: the match of the whole prefix, and whether a route lies strictly inside it.
-#[derive(Drop)]
+#[derive(Clone, Copy)]
 pub struct Standing {
     pub found: Found,
     pub inside: bool,

@@ -1,4 +1,5 @@
 // How large the stores are. A memory figure is answered with its entries or refused by name, and never bent to a legal one.
+#![tactic(auto)]
 ghost use Rattle.std.specs.Prelude.{◌≡◌};
 ghost use Rattle.sizes.specs.Sizes.{table_need, cache_need, setup_for, entries_for, sizing_number, sizing_entries, setup_number};
 
@@ -20,7 +21,7 @@ const RESERVED_BYTES: u64 = 4_096;
 
 const BYTES_AN_ENTRY: u64 = 32;
 
-#[derive(Drop)]
+#[derive(Clone, Copy)]
 pub enum Sizing {
     Entries(u32),
     TooSmall,
@@ -63,7 +64,7 @@ pub fn sizing_entries(answer: Sizing) -> u32
 
 // ---- the stores
 
-#[derive(Drop)]
+#[derive(Clone, Copy)]
 pub enum Setup {
     Done,
     ShortStore,

@@ -1,25 +1,26 @@
 // Prints what memory figures at and beside the limits are answered with.
-fn show(bytes: u64) {
+#![tactic(auto)]
+
+use std::io;
+
+fn show(rt: &impl Print, bytes: u64) -> io::Result<()> {
     let answer = sizes::entries_for(bytes);
-    io::print_decimal(1, bytes);
-    io::write_all(1, b" number ");
-    io::print_decimal(1, sizes::sizing_number(answer) as u64);
-    io::write_all(1, b" entries ");
-    io::print_decimal(1, sizes::sizing_entries(answer) as u64);
-    io::write_all(1, b"\n");
+    let number = sizes::sizing_number(answer);
+    let entries = sizes::sizing_entries(answer);
+    println!(rt; "{bytes} number {number} entries {entries}")
 }
 
-fn main() {
-    show(0);
-    show(4_127);
-    show(4_128);
-    show(4_159);
-    show(4_160);
-    show(33_558_559);
-    show(33_558_560);
-    show(2_147_483_647);
-    show(2_147_483_648);
-    show(4_294_967_296);
-    show(9_223_372_036_854_775_808);
-    show(18_446_744_073_709_551_615);
+fn main(rt: HostRuntime) -> io::Result<()> {
+    show(&rt, 0)?;
+    show(&rt, 4_127)?;
+    show(&rt, 4_128)?;
+    show(&rt, 4_159)?;
+    show(&rt, 4_160)?;
+    show(&rt, 33_558_559)?;
+    show(&rt, 33_558_560)?;
+    show(&rt, 2_147_483_647)?;
+    show(&rt, 2_147_483_648)?;
+    show(&rt, 4_294_967_296)?;
+    show(&rt, 9_223_372_036_854_775_808)?;
+    show(&rt, 18_446_744_073_709_551_615)
 }

@@ -15,7 +15,7 @@ use Rattle.prefix.specs.Bits.{one?}
 use Rattle.prefix.specs.Prefix.{prefix_of}
 use Rattle.trie.specs.Updates.{upd}
 use Rattle.trie.proofs.Stores.{upd_same, upd_other}
-use Rattle.lru.specs.Slots.{Cache}
+use Rattle.lru_cache.specs.Slots.{Cache}
 use Rattle.sizes.specs.BothStores.{slot_word, word, Room}
 use Rattle.slots.specs.Layout.{cell_word, up_in, cache_of}
 

@@ -10,8 +10,8 @@ use lib.Seq.{get_or-set_same, get_or-set_other, drop-set-lt}
 use Rattle.trie.specs.Trie.{Cell, Root, Kid, Inside, Points}
 use Rattle.trie.proofs.Stores.{upd_same}
 use Rattle.sizes.specs.Sizes.{LegalLimit, cache_need}
-use Rattle.lru.specs.Slots.{Cache, root_cell, set_child, set_prev, set_next}
-use Rattle.lru.specs.Sound.{Live, trie, child_at, pointer, along, Ring, SoundCache}
+use Rattle.lru_cache.specs.Slots.{Cache, root_cell, set_child, set_prev, set_next}
+use Rattle.lru_cache.specs.Sound.{Live, trie, child_at, pointer, along, Ring, SoundCache}
 use Rattle.sizes.specs.BothStores.{limit_of, Room}
 use Rattle.slots.specs.Layout.{entries_held, Shaped, cache_of}
 use Rattle.slots.specs.Stores.{put_prev, put_next, put_child, emptied, Kept}

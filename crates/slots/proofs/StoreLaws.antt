@@ -9,7 +9,7 @@ use lib.Seq.{get_or-set_other}
 use Rattle.prefix.specs.Prefix.{prefix_of}
 use Rattle.trie.specs.Updates.{upd}
 use Rattle.trie.proofs.Stores.{upd_same, upd_other}
-use Rattle.lru.specs.Slots.{Cache, branch_node, set_entry, set_hop, set_branch_length, set_child, set_up, set_prev, set_next}
+use Rattle.lru_cache.specs.Slots.{Cache, branch_node, set_entry, set_hop, set_branch_length, set_child, set_up, set_prev, set_next}
 use Rattle.sizes.specs.BothStores.{slot_word, Room}
 use Rattle.slots.specs.Layout.{cell_word, packed, cache_of}
 use Rattle.slots.specs.Stores.{put_entry, put_hop, put_prev, put_next, put_child, put_branch, put_up, put_count}

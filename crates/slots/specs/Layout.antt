@@ -5,7 +5,7 @@
 use Rattle.std.specs.Prelude.{cond, List, ℕ, ◌+◌, ◌*◌, ◌/◌, ◌%◌, ◌≤◌, ◌<◌, length}
 use Rattle.prefix.specs.Bits.{one?}
 use Rattle.prefix.specs.Prefix.{prefix_of}
-use Rattle.lru.specs.Slots.{Cache}
+use Rattle.lru_cache.specs.Slots.{Cache}
 use Rattle.sizes.specs.Sizes.{LegalLimit, cache_need}
 use Rattle.sizes.specs.BothStores.{word, limit_of, slot_word}
 

@@ -9,6 +9,7 @@
 // it, and up is the cell that points at the entry, or at the branch. Node 2 i is the entry of slot i, node 2 i + 1 its
 // branch; cell 2 i + b is the side b of slot i's branch. Slot 1 has no branch, and slot 0 is the header's own: its left
 // cell is the root's, and the order of use begins and ends there.
+#![tactic(auto)]
 ghost use Rattle.std.specs.Prelude.{◌≡◌, ◌<◌, ◌/◌, ◌%◌, take, length, set};
 ghost use Rattle.prefix.specs.Bits.{bits};
 ghost use Rattle.prefix.specs.Addresses.{address_bits};
@@ -29,13 +30,13 @@ const SLOTS: usize = 1016;
 
 // ---- the header
 
-#[derive(Drop)]
+#[derive(Clone, Copy)]
 pub struct Header {
     pub limit: u32,
     pub entries: u32,
 }
 
-#[derive(Drop)]
+#[derive(Clone, Copy)]
 pub enum Shape {
     Fits(Header),
     Broken,

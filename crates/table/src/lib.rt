@@ -6,6 +6,7 @@
 //         10.64.0.0/12  hop 2
 //              |
 //         10.64.0.0/16  hop 1
+#![tactic(auto)]
 ghost use Rattle.std.specs.Prelude.{◌≡◌, ◌+◌, ◌-◌, ◌/◌, ◌≤◌, ◌<◌, take};
 ghost use Rattle.prefix.specs.Addresses.{ipv4_bits};
 ghost use Rattle.trie.specs.Walk.{follow};
@@ -33,7 +34,7 @@ pub fn set_up(store: &mut [u32], limit: u32) -> Setup
 // ---- the descent
 
 // Where the descent stands: the node in hand, and of those before it the last, the last that is a route, and how many.
-#[derive(Drop)]
+#[derive(Clone, Copy)]
 struct Walk {
     at: u32,
     last: u32,
@@ -42,7 +43,7 @@ struct Walk {
 }
 
 // Where it stops: the last node that contains the prefix, the one after it that does not, and the last that is a route.
-#[derive(Drop)]
+#[derive(Clone, Copy)]
 pub struct Stop {
     pub last: u32,
     pub beyond: u32,
@@ -50,7 +51,7 @@ pub struct Stop {
     pub examined: u32,
 }
 
-#[derive(Drop)]
+#[derive(Clone, Copy)]
 enum Turn {
     On(Walk),
     End(Stop),

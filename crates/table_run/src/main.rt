@@ -1,6 +1,7 @@
 // Fills a table of limit 64 to the brim with nested prefixes and empties it again, many times over and in bad orders: each
 // turn announces or withdraws one prefix, checks that the store is sound, and looks one address up. What it prints was
 // worked out beside it by another program, over plain lists.
+#![tactic(auto)]
 use prefix::Address;
 use search::Found;
 use updates::{Action, Prefix, Update};
@@ -9,7 +10,7 @@ use verdicts::Verdict;
 const TURNS: u32 = 12_000;
 
 // What happened so far. The counts wrap, which no run comes near; the digest stands for every answer.
-#[derive(Drop)]
+#[derive(Clone, Copy)]
 struct Totals {
     seed: u64,
     done: u64,

@@ -1,10 +1,12 @@
 // The five tallies of a cache: counted by value, and added to the record that a caller lends. They wrap at 2^32 as
 // Counter32 of RFC 2578 does, so only the difference of two readings says how much happened between them.
+#![tactic(auto)]
+
 ghost use Rattle.std.specs.Prelude.{◌≡◌};
 ghost use Rattle.tallies.specs.Counting.{plus, minus, zero_tallies, after_hit, after_miss, after_drop, after_update, difference, held_sum, sum, Added};
 
 #[repr(C)]
-#[derive(Drop)]
+#[derive(Clone, Copy)]
 pub struct Tallies {
     pub hits: u32,
     pub misses: u32,

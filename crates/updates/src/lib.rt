@@ -1,4 +1,5 @@
 // Announcements and withdrawals in the table. An update record goes by value through the checks and into the store.
+#![tactic(auto)]
 ghost use Rattle.std.specs.Prelude.{◌≡◌};
 ghost use Rattle.updates.specs.Updates.{Means, TableUpdated, first_refusal};
 ghost use Rattle.verdicts.specs.Verdicts.{verdict_number};
@@ -6,19 +7,19 @@ ghost use Rattle.verdicts.specs.Verdicts.{verdict_number};
 use prefix::Address;
 use verdicts::Verdict;
 
-#[derive(Drop)]
+#[derive(Clone, Copy)]
 pub struct Prefix {
     pub address: Address,
     pub length: u32,
 }
 
-#[derive(Drop)]
+#[derive(Clone, Copy)]
 pub enum Action {
     Announce(u32),
     Withdraw,
 }
 
-#[derive(Drop)]
+#[derive(Clone, Copy)]
 pub struct Update {
     pub prefix: Prefix,
     pub action: Action,

@@ -1,6 +1,7 @@
 // What an update of the table answers.
+#![tactic(auto)]
 
-#[derive(Drop)]
+#[derive(Clone, Copy)]
 pub enum Verdict {
     Done,
     // a length is above 32

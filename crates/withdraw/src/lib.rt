@@ -1,4 +1,5 @@
 // A route goes, and with it every node that has no more use.
+#![tactic(auto)]
 ghost use Rattle.std.specs.Prelude.{◌≡◌, ◌+◌, ◌*◌, ◌≤◌, ◌<◌};
 ghost use Rattle.sizes.specs.BothStores.{word};
 ghost use Rattle.nodes.specs.Layout.{cell_word};

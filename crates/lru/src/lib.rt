@@ -1,1 +1,0 @@
-// Theory only: specs/ says what a sound cache of slots is and what each change makes of it, and proofs/ what follows.

@@ -1,0 +1,18 @@
+-- `prefix::trim` meets its contract. Assumes nothing.
+use mathlib.Core.Path.{sym, ap, ◌∙◌}
+use mathlib.Core.List.{◌++◌}
+use native.Mathlib.Omega.{arith}
+use Rattle.prefix.specs.Bits.{Bits, bits}
+use Rattle.prefix.proofs.AddressLaws.{trimmed_high, trimmed_low}
+use borrow.Author.Rules.{rules}
+use Rattle.prefix.proofs.trim.Goals as goal
+
+pub returns-then-n-le64 : goal.returns-then-n-le64
+returns-then-n-le64 c =
+    let s = c in
+    ap (λ (l : Bits). l ++ bits 64 0) c.half_trim.ensures ∙ sym (trimmed_high s.args.a s.args.n (omega arith))
+
+pub returns-else-n-le64 : goal.returns-else-n-le64
+returns-else-n-le64 c =
+    let s = c in
+    ap (λ (l : Bits). bits 64 s.args.a.high ++ l) c.half_trim-else-n-le64.ensures ∙ sym (trimmed_low s.args.a s.args.n (omega arith))

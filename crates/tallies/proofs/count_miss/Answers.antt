@@ -1,0 +1,6 @@
+-- `tallies::count_miss` meets its contract. Assumes nothing.
+use Rattle.std.proofs.Common.{rules}
+use Rattle.tallies.proofs.count_miss.Goals as goal
+
+pub returns : goal.returns
+returns c = rw (c.more.ensures, c.more-2.ensures)
