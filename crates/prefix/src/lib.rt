@@ -4,6 +4,7 @@
 //
 // A prefix is an address and a length. What each function answers is said by the list of the address's bits.
 #![tactic(auto)]
+
 ghost use Rattle.std.specs.Prelude.{◌≡◌, false, ◌≤◌, ◌<◌, min, get_or, take};
 ghost use Rattle.prefix.specs.Bits.{bits, digit};
 ghost use Rattle.prefix.specs.Prefix.{contains, common, trimmed};

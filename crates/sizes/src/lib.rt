@@ -1,5 +1,6 @@
 // How large the stores are. A memory figure is answered with its entries or refused by name, and never bent to a legal one.
 #![tactic(auto)]
+
 ghost use Rattle.std.specs.Prelude.{◌≡◌};
 ghost use Rattle.sizes.specs.Sizes.{table_need, cache_need, setup_for, entries_for, sizing_number, sizing_entries, setup_number};
 

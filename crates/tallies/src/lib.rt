@@ -3,7 +3,7 @@
 #![tactic(auto)]
 
 ghost use Rattle.std.specs.Prelude.{◌≡◌};
-ghost use Rattle.tallies.specs.Counting.{plus, minus, zero_tallies, after_hit, after_miss, after_drop, after_update, difference, held_sum, sum, Added};
+ghost use Rattle.tallies.specs.Counting.{plus, minus, zero_tallies, after_hit, after_miss, after_drop, after_update, difference, held_sum, sum, InRange, Added};
 
 #[repr(C)]
 #[derive(Clone, Copy)]
@@ -102,7 +102,8 @@ pub fn held(t: Tallies) -> u32
 
 // Two records, tally by tally.
 pub fn joined(t: Tallies, moved: Tallies) -> Tallies
-    ensures { result ≡ sum t moved }
+    ensures sums { result ≡ sum t moved }
+    ensures in_range { InRange t }
 {
     Tallies {
         hits: more(t.hits, moved.hits),
