@@ -3,12 +3,16 @@ if ! command -v rt >/dev/null 2>&1; then
     echo "koprzywist: the Rattle kit is missing: install it and put its bin/ folder, which has 'rt', on PATH" >&2
     return 1
 fi
-kit=$(cd "$(dirname "$(rt doc)")/.." && pwd)
 
-# Programs are compiled for x86-64: the kit has its own loader for them and, on Arm, an emulator.
+# Proves and builds a program; what the kit says is shown only if it fails.
+build() { # PROGRAM
+    mkdir -p target
+    rt run "$1" </dev/null >"target/$1.log" 2>&1 || {
+        cat "target/$1.log" >&2
+        return 1
+    }
+}
+
 start() { # PROGRAM
-    tools=$kit/on/$(uname -m)/toolchain
-    emulator=
-    [ -x "$tools/bin/qemu-x86_64" ] && emulator=$tools/bin/qemu-x86_64
-    ${emulator:+"$emulator"} "$tools/lib/ld-linux-x86-64.so.2" --library-path "$tools/lib" "target/bin/$1"
+    "crates/$1/out/$1"
 }

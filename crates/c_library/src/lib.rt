@@ -1,6 +1,7 @@
-// What a router links: one C function for each public call, under the names and numbers of include/koprzywist.h.
+// What a router calls: one function for each public call, under the names and numbers of include/koprzywist.h. The crate
+// c_library_c exports each of them to C.
 //
-// A slice is two arguments of C, a pointer and a count. There is no logic here: each function makes the proved call and
+// There is no logic here: each function makes the proved call and
 // writes its answer as words; a refused call writes 0 to every word of its answer. What a call moves is counted from zero
 // and added to the record that the caller lends.
 #![tactic(auto)]
@@ -19,8 +20,7 @@ use updates::Action;
 
 // ---- sizes and set-up
 
-#[unsafe(no_mangle)]
-pub extern "C" fn kop_entries_for(bytes: u64, entries: &mut u32) -> u32
+pub fn kop_entries_for(bytes: u64, entries: &mut u32) -> u32
     ensures { (result ≡ sizing_number (entries_for bytes)) × (entries.new ≡ sizing_entries (entries_for bytes)) }
 {
     let answer = sizes::entries_for(bytes);
@@ -28,15 +28,13 @@ pub extern "C" fn kop_entries_for(bytes: u64, entries: &mut u32) -> u32
     sizes::sizing_number(answer)
 }
 
-#[unsafe(no_mangle)]
-pub extern "C" fn kop_table_setup(table: &mut [u32], limit: u32) -> u32
+pub fn kop_table_setup(table: &mut [u32], limit: u32) -> u32
     ensures { SetUpTold (TableSetUp table.old table.new limit) result }
 {
     sizes::setup_number(table::set_up(table, limit))
 }
 
-#[unsafe(no_mangle)]
-pub extern "C" fn kop_cache_setup(cache: &mut [u32], limit: u32) -> u32
+pub fn kop_cache_setup(cache: &mut [u32], limit: u32) -> u32
     ensures { SetUpTold (CacheSetUp cache.old cache.new limit) result }
 {
     sizes::setup_number(cache::set_up(cache, limit))
@@ -44,15 +42,13 @@ pub extern "C" fn kop_cache_setup(cache: &mut [u32], limit: u32) -> u32
 
 // ---- the checks: 1 for sound stores, 0 for others
 
-#[unsafe(no_mangle)]
-pub extern "C" fn kop_table_check(table: &[u32]) -> u32
+pub fn kop_table_check(table: &[u32]) -> u32
     ensures { TableSound table.now result }
 {
     as_number(table::check(table))
 }
 
-#[unsafe(no_mangle)]
-pub extern "C" fn kop_check(table: &[u32], cache: &[u32]) -> u32
+pub fn kop_check(table: &[u32], cache: &[u32]) -> u32
     ensures { PairSound table.now cache.now result }
 {
     as_number(pairs::check_pair(table, cache))
@@ -73,8 +69,7 @@ struct Told {
     moved: Tallies,
 }
 
-#[unsafe(no_mangle)]
-pub extern "C" fn kop_lookup(
+pub fn kop_lookup(
     table: &[u32],
     cache: &mut [u32],
     tallies: &mut Tallies,
@@ -132,8 +127,7 @@ fn look_number(answer: Answer) -> u32
 
 // ---- updates
 
-#[unsafe(no_mangle)]
-pub extern "C" fn kop_announce(
+pub fn kop_announce(
     table: &mut [u32],
     cache: &mut [u32],
     tallies: &mut Tallies,
@@ -149,8 +143,7 @@ pub extern "C" fn kop_announce(
     told.number
 }
 
-#[unsafe(no_mangle)]
-pub extern "C" fn kop_withdraw(
+pub fn kop_withdraw(
     table: &mut [u32],
     cache: &mut [u32],
     tallies: &mut Tallies,
@@ -214,15 +207,13 @@ fn update(
 
 // ---- tallies
 
-#[unsafe(no_mangle)]
-pub extern "C" fn kop_tallies_since(later: &Tallies, earlier: &Tallies, difference: &mut Tallies)
+pub fn kop_tallies_since(later: &Tallies, earlier: &Tallies, difference: &mut Tallies)
     ensures { difference.new ≡ between later.now earlier.now }
 {
     *difference = tallies::since(*later, *earlier);
 }
 
-#[unsafe(no_mangle)]
-pub extern "C" fn kop_held(tallies: &Tallies) -> u32
+pub fn kop_held(tallies: &Tallies) -> u32
     ensures { result ≡ held_sum tallies.now }
 {
     tallies::held(*tallies)

@@ -7,8 +7,8 @@ ghost use Rattle.answers.specs.Answers.{room};
 ghost use Rattle.koprzywist.specs.Blocks.{Stepped, Lines, Stopped, BlockAnswered};
 
 use answers::Said;
-use libc::{STDIN_FILENO, STDOUT_FILENO};
 use script::Read;
+use std::io::{Read as _, Stdin, Stdout, Write as _};
 use tallies::Tallies;
 
 const TABLE_LIMIT: u32 = 512;
@@ -19,6 +19,9 @@ const LONGEST_LINE: usize = 64;
 
 // No answer is longer.
 const ROOM: usize = 64;
+
+// How much is read and written at once.
+const BLOCK: usize = 65_536;
 
 // ---- a block of lines
 
@@ -94,11 +97,11 @@ fn whole_lines(
 }
 
 // Writes the first n bytes, and answers whether all of them could be written.
-fn write_out(out: &[u8], n: usize) -> bool {
+fn write_out(mut output: Stdout, out: &[u8], n: usize) -> bool {
     if out.len() < n {
         return false;
     }
-    io::write_all(STDOUT_FILENO, &out[..n])
+    output.write_all(&out[..n]).is_ok()
 }
 
 // A block that was answered: where its whole lines end, the tallies after them, and whether all answers could be written.
@@ -112,6 +115,7 @@ struct Written {
 // Every whole line of a block, as many at a time as the output has room for. After a write that failed nothing more is
 // answered or written: what was printed has no gap.
 fn answer_block(
+    output: Stdout,
     table: &mut [u32],
     cache: &mut [u32],
     out: &mut [u8],
@@ -129,7 +133,7 @@ fn answer_block(
             tallies,
         };
         let r = whole_lines(table, cache, out, block, start);
-        let ok = write_out(out, r.waiting);
+        let ok = write_out(output, out, r.waiting);
         let end = r.at;
         let after = r.tallies;
         if !ok {
@@ -192,13 +196,14 @@ fn move_down(bytes: &mut [u8], from: usize, n: usize) {
 }
 
 // Reads once behind the bytes that are held: how many came, 0 at the end of the input or where reading fails.
-fn read_more(input: &mut [u8], held: usize) -> usize {
+fn read_more(mut source: Stdin, input: &mut [u8], held: usize) -> usize {
     if input.len() < held {
         return 0;
     }
-    let part = &mut input[held..];
-    let got = libc::read(STDIN_FILENO, part);
-    io::count(got, part)
+    match source.read(&mut input[held..]) {
+        Ok(got) => got,
+        Err(_) => 0,
+    }
 }
 
 #[derive(Clone, Copy)]
@@ -209,6 +214,8 @@ enum More {
 
 // One block: reads it, answers its lines and keeps the rest. There is no more once a write has failed.
 fn next_block(
+    source: Stdin,
+    output: Stdout,
     table: &mut [u32],
     cache: &mut [u32],
     out: &mut [u8],
@@ -219,7 +226,7 @@ fn next_block(
         return More::No;
     }
     let held = h.bytes;
-    let got = read_more(input, held);
+    let got = read_more(source, input, held);
     if got == 0 {
         return More::No;
     }
@@ -231,7 +238,7 @@ fn next_block(
     }
     let n = held + got;
     let before = h.tallies;
-    let w = answer_block(table, cache, out, &input[..n], before);
+    let w = answer_block(output, table, cache, out, &input[..n], before);
     let bytes = keep_rest(input, n, w.end);
     let tallies = w.tallies;
     More::Yes(Held {
@@ -250,6 +257,7 @@ fn end_line(input: &mut [u8], n: usize) {
 
 // The last line may lack its line feed, and is given it; an empty rest is no line.
 fn last_line(
+    output: Stdout,
     table: &mut [u32],
     cache: &mut [u32],
     out: &mut [u8],
@@ -268,7 +276,7 @@ fn last_line(
         return h;
     }
     let before = h.tallies;
-    let w = answer_block(table, cache, out, &input[..n + 1], before);
+    let w = answer_block(output, table, cache, out, &input[..n + 1], before);
     let tallies = w.tallies;
     Held {
         bytes: 0,
@@ -279,6 +287,8 @@ fn last_line(
 
 // To the end of the input, which no run of so many blocks outlasts.
 fn all_blocks(
+    source: Stdin,
+    output: Stdout,
     table: &mut [u32],
     cache: &mut [u32],
     out: &mut [u8],
@@ -291,7 +301,7 @@ fn all_blocks(
         if left == 0 {
             break h;
         }
-        match next_block(table, cache, out, input, h) {
+        match next_block(source, output, table, cache, out, input, h) {
             More::Yes(after) => {
                 h = after;
                 left -= 1;
@@ -304,23 +314,29 @@ fn all_blocks(
     end
 }
 
-fn main() {
+fn main(rt: HostRuntime) {
     let mut table = [0u32; 9216];
     let mut cache = [0u32; 1048];
     table::set_up(&mut table, TABLE_LIMIT);
     cache::set_up(&mut cache, CACHE_LIMIT);
-    let mut input = io::large_buffer();
-    let mut out = io::large_buffer();
+    let mut input = [0u8; BLOCK];
+    let mut out = [0u8; BLOCK];
     let start = Held {
         bytes: 0,
         tallies: tallies::zero(),
         ok: true,
     };
-    let h = all_blocks(&mut table, &mut cache, &mut out, &mut input, start);
-    let last = last_line(&mut table, &mut cache, &mut out, &mut input, h);
+    let source = rt.stdin();
+    let output = rt.stdout();
+    let h = all_blocks(
+        source, output, &mut table, &mut cache, &mut out, &mut input, start,
+    );
+    let last = last_line(
+        output, &mut table, &mut cache, &mut out, &mut input, h,
+    );
     if last.ok {
         let t = last.tallies;
         let n = answers::write_line(&mut out, 0, Said::Tallies(t.hits, t.misses, t.drops));
-        write_out(&out, n);
+        write_out(output, &out, n);
     }
 }
