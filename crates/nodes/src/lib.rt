@@ -9,6 +9,7 @@
 // node number: cell 0 is the root, cell 2 p + b the side b of node p, and cell q is word 1,016 + 8 (q / 2) + 3 + q % 2,
 // with no case for the root.
 #![tactic(auto)]
+
 ghost use Rattle.std.specs.Prelude.{◌≡◌, ◌/◌, length, take};
 ghost use Rattle.prefix.specs.Bits.{bits};
 ghost use Rattle.prefix.specs.Addresses.{address_bits};

@@ -3,7 +3,6 @@ use mathlib.Core.Path.{refl}
 use native.Mathlib.Omega.{arith}
 use lib.ListN.{length-set}
 use Rattle.nodes.specs.Stores.{filled_at}
-use borrow.Author.Rules.{rules}
 use Rattle.nodes.proofs.fill.Goals as goal
 
 pub bounds-slot-4 : goal.bounds-slot-4

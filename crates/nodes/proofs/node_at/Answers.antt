@@ -1,7 +1,6 @@
 -- `nodes::node_at` meets its contract. Assumes nothing.
 use native.Mathlib.Nat.{add-zero}
 use Rattle.nodes.specs.Stores.{node_in}
-use borrow.Author.Rules.{rules}
 use Rattle.nodes.proofs.node_at.Goals as goal
 
 pub returns : goal.returns

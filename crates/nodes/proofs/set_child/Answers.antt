@@ -1,7 +1,6 @@
 -- `nodes::set_child` meets its contract. Assumes nothing.
 use mathlib.Core.Path.{refl}
 use Rattle.nodes.specs.Stores.{put_child}
-use borrow.Author.Rules.{rules}
 use Rattle.nodes.proofs.set_child.Goals as goal
 
 pub returns : goal.returns

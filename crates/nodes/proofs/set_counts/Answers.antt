@@ -3,7 +3,6 @@ use mathlib.Core.Path.{refl}
 use native.Mathlib.Omega.{arith}
 use lib.ListN.{length-set}
 use Rattle.nodes.specs.Stores.{put_counts}
-use borrow.Author.Rules.{rules}
 use Rattle.nodes.proofs.set_counts.Goals as goal
 
 pub bounds-store-2 : goal.bounds-store-2

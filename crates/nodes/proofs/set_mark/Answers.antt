@@ -1,7 +1,6 @@
 -- `nodes::set_mark` meets its contract. Assumes nothing.
 use mathlib.Core.Path.{refl}
 use Rattle.nodes.specs.Stores.{put_mark}
-use borrow.Author.Rules.{rules}
 use Rattle.nodes.proofs.set_mark.Goals as goal
 
 pub returns : goal.returns

@@ -1,7 +1,6 @@
 -- `nodes::set_up` meets its contract. Assumes nothing.
 use mathlib.Core.Path.{refl}
 use Rattle.nodes.specs.Stores.{put_up}
-use borrow.Author.Rules.{rules}
 use Rattle.nodes.proofs.set_up.Goals as goal
 
 pub returns : goal.returns

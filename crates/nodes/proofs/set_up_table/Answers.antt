@@ -1,7 +1,6 @@
 -- `nodes::set_up_table` meets its contract. Assumes nothing.
 use mathlib.Core.Path.{refl}
 use Rattle.nodes.specs.Stores.{emptied}
-use Rattle.sizes.proofs.SizeLaws.{no_key}
 use Rattle.nodes.proofs.HeaderLaws.{header_word}
 use lib.ListN.{length-set}
 use borrow.Author.Rules.{rules}
@@ -10,7 +9,7 @@ use Rattle.nodes.proofs.set_up_table.Goals as goal
 pub returns-in_default : goal.returns-in_default
 returns-in_default c = record {
   answer = c.table_setup-answer.ensures;
-  done = λ z. absurd (no_key (rw z at c.in-Done.keys2));
+  done = λ z. absurd (c.in_default.not-Done z);
   refused = λ _. refl;
 }
 
