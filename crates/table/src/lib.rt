@@ -7,6 +7,7 @@
 //              |
 //         10.64.0.0/16  hop 1
 #![tactic(auto)]
+
 ghost use Rattle.std.specs.Prelude.{◌≡◌, ◌+◌, ◌-◌, ◌/◌, ◌≤◌, ◌<◌, take};
 ghost use Rattle.prefix.specs.Addresses.{ipv4_bits};
 ghost use Rattle.trie.specs.Walk.{follow};
