@@ -1,5 +1,6 @@
 // Longest match over a table store, and what the table says of a prefix.
 #![tactic(auto)]
+
 ghost use Rattle.std.specs.Prelude.{◌≡◌, suc, ◌-◌, ◌≤◌, ◌<◌, take};
 ghost use Rattle.prefix.specs.Prefix.{common};
 ghost use Rattle.prefix.specs.Addresses.{ipv4_bits};
