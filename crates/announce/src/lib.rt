@@ -1,5 +1,6 @@
 // A route comes in, or takes another hop.
 #![tactic(auto)]
+
 ghost use Rattle.std.specs.Prelude.{◌≤◌, ◌<◌};
 ghost use Rattle.model.specs.Demands.{Hop};
 ghost use Rattle.announce.specs.Writes.{Roomy};
