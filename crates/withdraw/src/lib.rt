@@ -1,5 +1,6 @@
 // A route goes, and with it every node that has no more use.
 #![tactic(auto)]
+
 ghost use Rattle.std.specs.Prelude.{◌≡◌, ◌+◌, ◌*◌, ◌≤◌, ◌<◌};
 ghost use Rattle.sizes.specs.BothStores.{word};
 ghost use Rattle.nodes.specs.Layout.{cell_word};
