@@ -1,5 +1,5 @@
 -- Which refusals are given first, by the tests that find them, and what the number tells. Assumes nothing.
-use mathlib.Core.Path.{◌≡◌, refl, sym, subst}
+use mathlib.Core.Path.{◌≡◌, refl, subst}
 use mathlib.Core.Bool.{true, ◌||◌}
 use Prim.Native.Nat.{ℕ, ◌≤◌, ◌<◌}
 use native.Mathlib.Decide.{ℕ_discrete, dec_le}

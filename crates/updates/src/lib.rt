@@ -1,5 +1,6 @@
 // Announcements and withdrawals in the table. An update record goes by value through the checks and into the store.
 #![tactic(auto)]
+
 ghost use Rattle.std.specs.Prelude.{◌≡◌};
 ghost use Rattle.updates.specs.Updates.{Means, TableUpdated, first_refusal};
 ghost use Rattle.verdicts.specs.Verdicts.{verdict_number};
