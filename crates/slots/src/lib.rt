@@ -10,6 +10,7 @@
 // branch; cell 2 i + b is the side b of slot i's branch. Slot 1 has no branch, and slot 0 is the header's own: its left
 // cell is the root's, and the order of use begins and ends there.
 #![tactic(auto)]
+
 ghost use Rattle.std.specs.Prelude.{◌≡◌, ◌<◌, ◌/◌, ◌%◌, take, length, set};
 ghost use Rattle.prefix.specs.Bits.{bits};
 ghost use Rattle.prefix.specs.Addresses.{address_bits};

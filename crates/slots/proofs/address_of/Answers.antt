@@ -1,7 +1,6 @@
 -- `slots::address_of` meets its contract. Assumes nothing.
 use native.Mathlib.Nat.{add-zero}
-use borrow.Author.Rules.{rules}
 use Rattle.slots.proofs.address_of.Goals as goal
 
 pub returns : goal.returns
-returns c = simp add-zero c.from_ipv4.ensures.0
+returns c = simp add-zero c.from_ipv4.ensures.first

@@ -3,14 +3,13 @@ use mathlib.Core.Path.{refl}
 use lib.ListN.{length-set}
 use borrow.Author.Rules.{rules}
 use Rattle.slots.specs.Stores.{emptied}
-use Rattle.sizes.proofs.SizeLaws.{no_key}
 use Rattle.slots.proofs.HeaderLaws.{header_word}
 use Rattle.slots.proofs.set_up_cache.Goals as goal
 
 pub returns-in_default : goal.returns-in_default
 returns-in_default c = record {
   answer = c.cache_setup-answer.ensures;
-  done = λ z. absurd (no_key (rw z at c.in-Done.keys2));
+  done = λ z. absurd (c.in_default.not-Done z);
   refused = λ _. refl;
 }
 
