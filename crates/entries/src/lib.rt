@@ -1,6 +1,7 @@
 // The cached entries over lent words: found by address, kept in their order of use. The words and their layout are the crate
 // slots'. Its functions are for the crates above: they take the number of entries from a header that fits the store.
 #![tactic(auto)]
+
 ghost use Rattle.std.specs.Prelude.{◌≤◌};
 ghost use Rattle.model.specs.Model.{highest_hop};
 ghost use Rattle.slots.specs.Layout.{entries_held, Shaped};

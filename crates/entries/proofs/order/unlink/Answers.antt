@@ -1,0 +1,13 @@
+-- `entries::order::unlink` meets its contract. Assumes nothing.
+use Rattle.entries.proofs.Ordering.{far_prev, far_next, unlinked}
+use borrow.Author.Rules.{rules}
+use Rattle.entries.proofs.order.unlink.Goals as goal
+
+pub returns-then-entries-before : goal.returns-then-entries-before
+returns-then-entries-before c = search (rules, far_prev)
+
+pub returns-then-entries-after : goal.returns-then-entries-after
+returns-then-entries-after c = search (rules, far_next)
+
+pub returns : goal.returns
+returns c = search (rules, unlinked)
