@@ -30,7 +30,7 @@ use Rattle.slots.specs.Layout.{entries_held, up_in, cache_of, Shaped}
 use Rattle.slots.specs.Stores.{put_entry, put_child, put_up}
 use Rattle.slots.proofs.ReadLaws.{read_up}
 use Rattle.slots.proofs.KeptLaws.{kept_then, kept_same, plain_entry}
-use Rattle.entries.specs.Caches.{entries, Free, SoundEntries}
+use Rattle.entries.specs.Caches.{entries, SoundEntries}
 use Rattle.entries.specs.Changed.{Slots}
 use Rattle.entries.specs.Walks.{CommonWith, Walked}
 use Rattle.insertion.specs.Hangs.{forked, Beside, Hung}

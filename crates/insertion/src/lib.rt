@@ -1,5 +1,6 @@
 // A new entry comes into a cache store, as the most recently used, in the slot after those in use.
 #![tactic(auto)]
+
 ghost use Rattle.std.specs.Prelude.{◌≡◌, ◌∷◌, suc, ◌/◌, ◌≤◌, ◌<◌, take};
 ghost use Rattle.prefix.specs.Addresses.{ipv4_bits};
 ghost use Rattle.sizes.specs.BothStores.{limit_of};
