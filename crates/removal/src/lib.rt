@@ -1,6 +1,7 @@
 // An entry leaves a cache store. Entries fill the slots 1 to n without gaps: when one goes, the entry whose branch has no more
 // use moves into its slot, and the last slot into that one's. A number that no sound store has is left alone.
 #![tactic(auto)]
+
 ghost use Rattle.std.specs.Prelude.{◌≡◌, ◌-◌, ◌/◌, ◌%◌, ◌<◌, ◌≤◌};
 ghost use Rattle.prefix.specs.Bits.{one?};
 ghost use Rattle.lru_cache.specs.Slots.{set_entry};
