@@ -2,6 +2,7 @@
 // itself, and a refusal leaves every word as it was. What the calls are made of is below: the crate entries has the entries over
 // their words, insertion and removal the ways in and out.
 #![tactic(auto)]
+
 ghost use Rattle.prefix.specs.Addresses.{ipv4_bits};
 ghost use Rattle.model.specs.Demands.{Hop};
 ghost use Rattle.cache.specs.Calls.{CacheSetUp, Finds, OldestIs, Placed, Touched, Inserted, Removed, HopGiven};

@@ -1,0 +1,13 @@
+-- `cache::check::goes_on` meets its contract. Assumes nothing.
+use Rattle.cache.proofs.NodeChecks.{goes_short, goes_aside, goes_on}
+use borrow.Author.Rules.{rules}
+use Rattle.cache.proofs.check.goes_on.Goals as goal
+
+pub returns-then-not-longer : goal.returns-then-not-longer
+returns-then-not-longer c = search (rules, goes_short)
+
+pub returns-then-bit-side : goal.returns-then-bit-side
+returns-then-bit-side c = search (rules, goes_aside)
+
+pub returns : goal.returns
+returns c = search (rules, goes_on)
