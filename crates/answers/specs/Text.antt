@@ -2,7 +2,6 @@
 use Rattle.std.specs.Prelude.{ℕ, List, [], ◌∷◌}
 use Prim.Native.Char.{code}
 use Prim.Native.String.{String}
-use Prim.Native.String
 
 -- the bytes of a text in ASCII
 abbrev pub text : String → List ℕ

@@ -1,6 +1,7 @@
 // The bytes of each line that is printed. Each function stores its bytes from a place of the lent buffer on, and answers the
 // place after them.
 #![tactic(auto)]
+
 ghost use Rattle.std.specs.Prelude.{◌≡◌, ◌+◌, ◌≤◌, ◌<◌, ◌++◌, length};
 ghost use Rattle.answers.specs.Text.{text};
 ghost use Rattle.answers.specs.Answers.{decimal, dotted, answer_of, room, Printed};

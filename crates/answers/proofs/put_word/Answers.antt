@@ -1,8 +1,6 @@
 -- `answers::put_word` meets its contract. Assumes nothing.
-use Prim.Native.Nat.{◌-◌}
-use lib.ListN.{length}
 use borrow.Author.Rules.{rules}
-use Rattle.answers.proofs.WritingLaws.{Copied, none_copied, copied_more, wrote_word}
+use Rattle.answers.proofs.WritingLaws.{none_copied, copied_more, wrote_word}
 use Rattle.answers.proofs.put_word.Goals as goal
 
 pub loop-i-init : goal.loop-i-init

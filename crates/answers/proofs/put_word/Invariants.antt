@@ -1,8 +1,7 @@
 -- `answers::put_word` meets its contract. Assumes nothing.
 use Prim.Native.Nat.{◌-◌}
 use lib.ListN.{length}
-use borrow.Author.Rules.{rules}
-use Rattle.answers.proofs.WritingLaws.{Copied, none_copied, copied_more, wrote_word}
+use Rattle.answers.proofs.WritingLaws.{Copied}
 use Rattle.answers.proofs.put_word.Given as goal
 
 abbrev pub invariant-loop-i : goal.invariant-loop-i
