@@ -10,7 +10,7 @@ use lib.Dec.{eqb}
 use borrow.Author.Tests.{eqb-true, ne_eqb}
 use Rattle.script.specs.Lines.{number, both, numbers, parts, four, address, space, point}
 use Rattle.script.specs.Blocks.{before, feed, line_from, line_end}
-use Rattle.script.specs.Reading.{run, ended, number_at, over, marked, closed, octets, field_end, Few, few_none, few_one, OneOctet, OctetRead, OneAddress, AddressRead}
+use Rattle.script.specs.Reading.{run, number_at, over, marked, closed, octets, field_end, Few, few_none, few_one, OneOctet, OctetRead, OneAddress, AddressRead}
 use Rattle.script.proofs.LineEnds.{drop_before, line_later, end_later}
 use Rattle.script.proofs.RunLaws.{behind, run_before, run_within, first_is_run, numbers_other, numbers_none, numbers_over, numbers_marked, closed_of}
 use Rattle.script.proofs.NumberLaws.{ended_told, ended_none, number_small}

@@ -8,7 +8,7 @@ use mathlib.Core.Option.{Option, none, some}
 use lib.ListN.{length, drop, get_or, length-drop}
 use lib.Dec.{eqb, ltb}
 use borrow.Author.Tests.{le-leb, lt-leb, eq-eqb, ne_eqb, eqb-true, ltb-true, ltb-false}
-use Rattle.script.specs.Lines.{number, both, numbers, onto, parts, address, only, call, fields, line_of, largest, longest, space}
+use Rattle.script.specs.Lines.{both, numbers, onto, parts, address, only, call, fields, line_of, largest, longest, space}
 use Rattle.script.specs.Blocks.{before, feed, line_from, line_end, LineRead}
 use Rattle.script.specs.Reading.{number_at, over, marked, closed, field_end, OneAddress, AddressRead, feed_at, Passable, lettered, SeenTo}
 use Rattle.script.proofs.LineEnds.{line_at_end, line_at_feed, line_goes_on, line_later, end_later}

@@ -14,7 +14,6 @@ use borrow.Author.Tests.{le-leb, lt-leb, leb-true}
 use Rattle.script.specs.Lines.{digit, digits, value_from, number}
 use Rattle.script.specs.Reading.{run, ended, number_at}
 use Rattle.script.proofs.RunLaws.{digits_run}
-use Rattle.script.specs.declared.Found.{Found}
 use Rattle.script.specs.declared.Found.TheVariants.{Number, Nothing}
 use Rattle.answers.proofs.Booleans.{both_true}
 

@@ -1,5 +1,4 @@
 -- By computing: the worked run's lines as they are read, odd but good lines, and bad ones of each kind. Assumes nothing.
-use Prim.Native.Nat.{◌+◌}
 use Prim.Native.String.{String}
 use mathlib.Core.Path.{◌≡◌, refl}
 use mathlib.Core.List.{List, [], ◌∷◌}

@@ -1,6 +1,7 @@
 // What a line of bytes asks for. A line is read where it stands in a block, up to its line feed: each number is the digits from a place
 // on, and the byte after them tells how the line goes on.
 #![tactic(auto)]
+
 ghost use Rattle.std.specs.Prelude.{◌≡◌, not, [], ◌∷◌, ◌+◌, ◌*◌, ◌≤◌, drop};
 ghost use Rattle.std.proofs.Math.Option.{some};
 ghost use Rattle.script.specs.Lines.{parts, both, numbers, fields, space, largest};
