@@ -1,5 +1,6 @@
 // The public check of a pair of stores that the caller lends: the table, the cache in itself, and each entry against the routes.
 #![tactic(auto)]
+
 ghost use Rattle.std.specs.Prelude.{◌≡◌, ◌≤◌, ◌<◌};
 ghost use Rattle.model.specs.Demands.{Covered};
 ghost use Rattle.slots.specs.Layout.{entries_held};
