@@ -2,11 +2,13 @@
 // whole order of use goes into a digest; at the end the order is printed. What it prints was worked out beside it by another
 // program, over plain lists.
 #![tactic(auto)]
+
 ghost use Rattle.sizes.specs.BothStores.{Room};
 
 use cache::{Change, Last, Sought};
 use prefix::Address;
 use slots::Shape;
+use std::io;
 
 const TURNS: u32 = 6_000;
 
@@ -65,7 +67,7 @@ fn shorter(past: u32, k: u64) -> u32 {
 fn store_new(store: &mut [u32], x: Address, past: u32, turn: u32, t: Totals) -> Totals {
     let mut u = t;
     u.stored = test_tools::one_more(t.stored);
-    u.removed = std::num::wrapping_add_u64(t.removed, insert(store, x, past, t.seed, turn));
+    u.removed = t.removed.wrapping_add(insert(store, x, past, t.seed, turn));
     u
 }
 
@@ -104,28 +106,28 @@ struct Seen {
     digest: u64,
 }
 
-fn see(store: &[u32], s: Seen, shown: bool) -> Seen {
+fn see(rt: &impl Print, store: &[u32], s: Seen, shown: bool) -> io::Result<Seen> {
     let at = s.at;
     let Shape::Fits(h) = slots::read_header(store) else {
-        return s;
+        return Ok(s);
     };
     if h.entries < at {
-        return s;
+        return Ok(s);
     }
-    seen_at(store, at, s.digest, shown)
+    seen_at(rt, store, at, s.digest, shown)
 }
 
-fn seen_at(store: &[u32], at: u32, digest: u64, shown: bool) -> Seen
+fn seen_at(rt: &impl Print, store: &[u32], at: u32, digest: u64, shown: bool) -> io::Result<Seen>
     requires { Room store.now at }
 {
     let n = slots::length_of(store, at);
     let hop = slots::hop_of(store, at);
     let next = slots::next_of(store, at);
-    show_entry(shown, slots::address_of(store, at), n, hop);
-    Seen {
+    show_entry(rt, shown, slots::address_of(store, at), n, hop)?;
+    Ok(Seen {
         at: next,
         digest: test_tools::digested(digest, (hop as u64) * 64 + (n as u64)),
-    }
+    })
 }
 
 // The slot used most recently, or 0.
@@ -144,51 +146,44 @@ fn held(store: &[u32]) -> u32 {
 }
 
 // The whole order of use, from the most recently used entry on.
-fn see_all(store: &[u32], digest: u64, shown: bool) -> u64 {
+fn see_all(rt: &impl Print, store: &[u32], digest: u64, shown: bool) -> io::Result<u64> {
     let mut s = Seen {
         at: first_of(store),
         digest,
     };
     let mut left = held(store);
     while left != 0 {
-        s = see(store, s, shown);
+        s = see(rt, store, s, shown)?;
         left -= 1;
     }
-    s.digest
+    Ok(s.digest)
 }
 
-fn show_entry(shown: bool, a: Address, n: u32, hop: u32) {
+fn show_entry(rt: &impl Print, shown: bool, a: Address, n: u32, hop: u32) -> io::Result<()> {
     if !shown {
-        return;
+        return Ok(());
     }
     if 32 < n {
-        return;
+        return Ok(());
     }
     let word = prefix::to_ipv4(prefix::trim_high(a, n));
-    io::print_decimal(1, (word / 16_777_216) as u64);
-    io::write_all(1, b".");
-    io::print_decimal(1, (word / 65_536 % 256) as u64);
-    io::write_all(1, b".");
-    io::print_decimal(1, (word / 256 % 256) as u64);
-    io::write_all(1, b".");
-    io::print_decimal(1, (word % 256) as u64);
-    io::write_all(1, b"/");
-    io::print_decimal(1, n as u64);
-    io::write_all(1, b" ");
-    io::print_decimal(1, hop as u64);
-    io::write_all(1, b"\n");
+    let first = word / 16_777_216;
+    let second = word / 65_536 % 256;
+    let third = word / 256 % 256;
+    let last = word % 256;
+    println!(rt; "{first}.{second}.{third}.{last}/{n} {hop}")
 }
 
-fn checked(store: &[u32], t: Totals) -> Totals {
+fn checked(rt: &impl Print, store: &[u32], t: Totals) -> io::Result<Totals> {
     let mut u = t;
     if !cache::check::check_entries(store) {
         u.unsound = test_tools::one_more(t.unsound);
     }
-    u.digest = see_all(store, t.digest, false);
-    u
+    u.digest = see_all(rt, store, t.digest, false)?;
+    Ok(u)
 }
 
-fn run(store: &mut [u32]) -> Totals {
+fn run(rt: &impl Print, store: &mut [u32]) -> io::Result<Totals> {
     let mut t = Totals {
         seed: 99,
         hits: 0,
@@ -200,20 +195,21 @@ fn run(store: &mut [u32]) -> Totals {
     let mut k: u32 = 0;
     while k < TURNS {
         t = turn_once(store, k, t);
-        t = checked(store, t);
+        t = checked(rt, store, t)?;
         k += 1;
     }
-    t
+    Ok(t)
 }
 
-fn main() {
+fn main(rt: HostRuntime) -> io::Result<()> {
     let mut store = [0xffff_ffffu32; 1400];
     cache::set_up(&mut store, 40);
-    let t = run(&mut store);
-    test_tools::show(b"hits ", t.hits);
-    test_tools::show(b"stored ", t.stored);
-    test_tools::show(b"removed ", t.removed);
-    test_tools::show(b"unsound ", t.unsound);
-    test_tools::show(b"digest ", t.digest);
-    see_all(&store, 0, true);
+    let t = run(&rt, &mut store)?;
+    test_tools::show(&rt, b"hits ", t.hits)?;
+    test_tools::show(&rt, b"stored ", t.stored)?;
+    test_tools::show(&rt, b"removed ", t.removed)?;
+    test_tools::show(&rt, b"unsound ", t.unsound)?;
+    test_tools::show(&rt, b"digest ", t.digest)?;
+    see_all(&rt, &store, 0, true)?;
+    Ok(())
 }
