@@ -16,7 +16,9 @@ pub returns-then-next-eq0 : goal.returns-then-next-eq0
 returns-then-next-eq0 c = search (rules, round_closed)
 
 pub loop-k-preserved : goal.loop-k-preserved
-loop-k-preserved c = round_on _ _ _ _ c.loop-k.invariant (search rules) _ (search rules) (search rules) _ c.prev_of-back.ensures (search rules) (search rules)
+loop-k-preserved c =
+    round_on _ _ _ _ c.loop-k.invariant (search rules) _ (search rules) (search rules) _ c.prev_of-back.ensures (search rules)
+    (search rules)
 
 pub returns : goal.returns
 returns c = search (rules, round_open)
