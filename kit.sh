@@ -7,7 +7,7 @@ fi
 # Proves and builds a program; what the kit says is shown only if it fails.
 build() { # PROGRAM
     mkdir -p target
-    rt run "$1" </dev/null >"target/$1.log" 2>&1 || {
+    (cd "crates/$1" && rt run) </dev/null >"target/$1.log" 2>&1 || {
         cat "target/$1.log" >&2
         return 1
     }

@@ -2,6 +2,7 @@
 //
 // A slice is two arguments of C, a pointer and a count. There is no logic here: each function makes the proved call.
 #![tactic(auto)]
+
 ghost use Rattle.std.specs.Prelude.{◌≡◌, cond, [], ◌∷◌};
 ghost use Rattle.sizes.specs.Sizes.{entries_for, sizing_number, sizing_entries};
 ghost use Rattle.tallies.specs.Counting.{difference as between, held_sum};
