@@ -2,6 +2,7 @@
 // table of 512 routes and a cache of 3 entries. Input is read and output is written in blocks, so that memory is constant
 // whatever the length of the script.
 #![tactic(auto)]
+
 ghost use Rattle.std.specs.Prelude.{◌+◌, ◌≡◌, ltb};
 ghost use Rattle.answers.specs.Answers.{room};
 ghost use Rattle.koprzywist.specs.Blocks.{Stepped, Lines, Stopped, BlockAnswered};
@@ -331,9 +332,7 @@ fn main(rt: HostRuntime) {
     let h = all_blocks(
         source, output, &mut table, &mut cache, &mut out, &mut input, start,
     );
-    let last = last_line(
-        output, &mut table, &mut cache, &mut out, &mut input, h,
-    );
+    let last = last_line(output, &mut table, &mut cache, &mut out, &mut input, h);
     if last.ok {
         let t = last.tallies;
         let n = answers::write_line(&mut out, 0, Said::Tallies(t.hits, t.misses, t.drops));

@@ -1,0 +1,19 @@
+-- `koprzywist::answer_block` meets its contract. Assumes nothing.
+use mathlib.Core.Path.{◌≡◌}
+use Prim.Native.Nat.{◌-◌, ◌≤◌}
+use lib.ListN.{length}
+use Rattle.koprzywist.specs.Blocks.{from, Lines, at_start}
+use Rattle.koprzywist.proofs.Rounds.{and_round, round_inside, round_onward, not_written, all_written}
+use borrow.Author.Rules.{rules}
+use Rattle.koprzywist.proofs.answer_block.Given as goal
+
+abbrev pub invariant-loop-output : goal.invariant-loop-output
+invariant-loop-output l =
+    (l.at ≤ length l.block)
+    × (length l.table ≡ length l.initial.table)
+    × (length l.cache ≡ length l.initial.cache)
+    × (length l.out ≡ length l.initial.out)
+    × Lines l.block l.initial.table l.initial.cache l.initial.out (from 0 l.initial.tallies) l.table l.cache l.out (from l.at l.tallies)
+
+abbrev pub decreases-loop-output : goal.decreases-loop-output
+decreases-loop-output l = length l.block - l.at

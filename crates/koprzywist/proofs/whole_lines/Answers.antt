@@ -1,0 +1,20 @@
+-- `koprzywist::whole_lines` meets its contract. Assumes nothing.
+use mathlib.Core.Path.{◌≡◌}
+use Prim.Native.Nat.{◌-◌}
+use lib.ListN.{length}
+use borrow.Author.Rules.{rules}
+use Rattle.koprzywist.specs.Blocks.{Lines, at_start}
+use Rattle.koprzywist.proofs.Stepping.{step_onward, and_step, stopped_there, lines_left}
+use Rattle.koprzywist.proofs.whole_lines.Goals as goal
+
+pub loop-next-init : goal.loop-next-init
+loop-next-init c = (search rules, search rules, search rules, at_start)
+
+pub loop-next-smaller : goal.loop-next-smaller
+loop-next-smaller c = search (rules, step_onward)
+
+pub loop-next-preserved : goal.loop-next-preserved
+loop-next-preserved c = (search rules, search rules, search rules, search (rules, and_step))
+
+pub returns : goal.returns
+returns c = (search (rules, lines_left), search (rules, stopped_there))
