@@ -2,8 +2,10 @@
 // turn announces or withdraws one prefix, checks that the store is sound, and looks one address up. What it prints was
 // worked out beside it by another program, over plain lists.
 #![tactic(auto)]
+
 use prefix::Address;
 use search::Found;
+use std::io;
 use updates::{Action, Prefix, Update};
 use verdicts::Verdict;
 
@@ -113,13 +115,13 @@ fn run(store: &mut [u32]) -> Totals {
     t
 }
 
-fn main() {
+fn main(rt: HostRuntime) -> io::Result<()> {
     let mut store = [0xffff_ffffu32; 2048];
     table::set_up(&mut store, 64);
     let t = run(&mut store);
-    test_tools::show(b"done ", t.done);
-    test_tools::show(b"full ", t.full);
-    test_tools::show(b"not held ", t.not_held);
-    test_tools::show(b"unsound ", t.unsound);
-    test_tools::show(b"digest ", t.digest);
+    test_tools::show(&rt, b"done ", t.done)?;
+    test_tools::show(&rt, b"full ", t.full)?;
+    test_tools::show(&rt, b"not held ", t.not_held)?;
+    test_tools::show(&rt, b"unsound ", t.unsound)?;
+    test_tools::show(&rt, b"digest ", t.digest)
 }
