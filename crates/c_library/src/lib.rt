@@ -5,6 +5,7 @@
 // writes its answer as words; a refused call writes 0 to every word of its answer. What a call moves is counted from zero
 // and added to the record that the caller lends.
 #![tactic(auto)]
+
 ghost use Rattle.std.specs.Prelude.{◌≡◌, cond, [], ◌∷◌};
 ghost use Rattle.sizes.specs.Sizes.{entries_for, sizing_number, sizing_entries};
 ghost use Rattle.tallies.specs.Counting.{difference as between, held_sum};

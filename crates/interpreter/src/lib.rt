@@ -1,5 +1,6 @@
 // One line of a script: its call is made on the two stores, and what it answers is said.
 #![tactic(auto)]
+
 ghost use Rattle.std.specs.Prelude.{◌≡◌};
 ghost use Rattle.model.specs.Runs.{look as looks};
 ghost use Rattle.prefix.specs.Bits.{bits};

@@ -8,7 +8,7 @@ use native.Mathlib.Nat.{mod-eq_of_lt, div-mul-le_self}
 use lib.ListN.{length, take}
 use lib.Pow.{shr_lt}
 use lib.Seq.{length-take-le}
-use Rattle.prefix.specs.Bits.{Bits, bits, value}
+use Rattle.prefix.specs.Bits.{bits, value}
 use Rattle.prefix.specs.Prefix.{trimmed}
 use Rattle.prefix.proofs.BitLaws.{length_bits, take_bits, value_bits, bits_inj, trim_bits}
 use Rattle.sizes.specs.Sizes.{setup_for, setup_number}
@@ -16,7 +16,7 @@ use Rattle.sizes.specs.BothStores.{SetUp}
 use Rattle.sizes.specs.declared.Setup.{Setup}
 use Rattle.sizes.specs.declared.Setup.TheVariants.{Done, ShortStore, BadLimit}
 use Rattle.tallies.specs.declared.Tallies.{Tallies}
-use Rattle.model.specs.Model.{Limits, Answer, values}
+use Rattle.model.specs.Model.{Limits, values}
 use Rattle.model.specs.Runs.{State, step, answers, after, empty}
 use Rattle.model.specs.Runs as model
 use Rattle.table.specs.Tables.{TableSetUp}

@@ -47,7 +47,6 @@ use Rattle.entries.specs.declared.find.Nearest.TheVariants.{Hit, Miss}
 use Rattle.pairs.specs.Pairs.{SoundPair}
 use Rattle.lookup.specs.Promises.{answer_of, ClearedIn, LookedUp}
 use Rattle.lookup.specs.Lookups.{Missed, LookedAt, Used, Stored}
-use Rattle.lookup.specs.declared.Answer.{Answer}
 use Rattle.lookup.specs.declared.Answer.TheVariants as answers
 use Rattle.lookup.specs.declared.Looked.{Looked}
 use Rattle.pairs.proofs.Pairing.{legal_pair, routes_short, routes_hops, short_entries}

@@ -1,6 +1,7 @@
 // The public lookup in a pair of stores that the caller lends: a hit in the cache, a miss that stores an entry, or a drop. It
 // takes every address and every content of the stores, and ends; from a sound pair it does what the model says and leaves it sound.
 #![tactic(auto)]
+
 ghost use Rattle.std.specs.Prelude.{◌≡◌, max, ◌≤◌, take};
 ghost use Rattle.prefix.specs.Addresses.{ipv4_bits};
 ghost use Rattle.sizes.specs.BothStores.{limit_of};

@@ -2,6 +2,7 @@
 // takes every update and every content of the stores, and ends; from a sound pair it does what the model says and leaves it
 // sound.
 #![tactic(auto)]
+
 ghost use Rattle.std.specs.Prelude.{◌≡◌};
 ghost use Rattle.updates.specs.Updates.{first_refusal};
 ghost use Rattle.refresh.specs.Promises.{UpdatePromise, unfit_number, refused_by, Numbered};

@@ -1,6 +1,7 @@
 // What becomes of the entries once the table has taken an update: each one leaves, takes another hop, or stays as it is. The
 // table is asked only about those that overlap the update's prefix.
 #![tactic(auto)]
+
 ghost use Rattle.std.specs.Prelude.{◌≡◌, ◌<◌, ◌≤◌};
 ghost use Rattle.slots.specs.Layout.{entries_held, Shaped};
 ghost use Rattle.renewal.specs.Passes.{Within, next_pass, Stepped, Drops, Keeps, Turns, Touches, Withdrawn, Alike, Passed};

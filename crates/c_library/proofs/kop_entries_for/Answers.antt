@@ -1,5 +1,4 @@
 -- `c_library::kop_entries_for` meets its contract. Assumes nothing.
-use borrow.Author.Rules.{rules}
 use mathlib.Core.Path.{ap, ◌∙◌}
 use Rattle.sizes.specs.Sizes.{sizing_number, sizing_entries}
 use Rattle.c_library.proofs.kop_entries_for.Goals as goal

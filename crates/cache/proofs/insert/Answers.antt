@@ -18,8 +18,8 @@ returns-then-not-is_hop c = search (rules, insert_no_hop)
 pub insert_entry-requires : goal.insert_entry-requires
 insert_entry-requires c =
     let p =
-        insert_asked _ _ c.read_header.ensures _ c.in-Fits.is _ _ c.is_hop.ensures c.args.length (search rules) (search rules)
-        (search rules)
+    insert_asked _ _ c.read_header.ensures _ c.in-Fits.is _ _ c.is_hop.ensures c.args.length (search rules) (search rules)
+    (search rules)
     in
     record { shaped = p.0; entries_value = p.1.0; entries_bound = p.1.1 }
 

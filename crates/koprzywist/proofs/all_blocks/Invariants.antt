@@ -1,7 +1,6 @@
 -- `koprzywist::all_blocks` is safe and ends. Assumes nothing.
 use mathlib.Core.Path.{◌≡◌}
 use lib.ListN.{length}
-use borrow.Author.Rules.{rules}
 use Rattle.koprzywist.proofs.all_blocks.Given as goal
 
 abbrev pub invariant-loop-left : goal.invariant-loop-left

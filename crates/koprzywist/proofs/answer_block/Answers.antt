@@ -1,8 +1,5 @@
 -- `koprzywist::answer_block` meets its contract. Assumes nothing.
-use mathlib.Core.Path.{◌≡◌}
-use Prim.Native.Nat.{◌-◌, ◌≤◌}
-use lib.ListN.{length}
-use Rattle.koprzywist.specs.Blocks.{from, Lines, at_start}
+use Rattle.koprzywist.specs.Blocks.{at_start}
 use Rattle.koprzywist.proofs.Rounds.{and_round, round_inside, round_onward, not_written, all_written}
 use borrow.Author.Rules.{rules}
 use Rattle.koprzywist.proofs.answer_block.Goals as goal

@@ -2,9 +2,7 @@
 use mathlib.Core.Path.{◌≡◌}
 use Prim.Native.Nat.{◌-◌, ◌≤◌}
 use lib.ListN.{length}
-use Rattle.koprzywist.specs.Blocks.{from, Lines, at_start}
-use Rattle.koprzywist.proofs.Rounds.{and_round, round_inside, round_onward, not_written, all_written}
-use borrow.Author.Rules.{rules}
+use Rattle.koprzywist.specs.Blocks.{from, Lines}
 use Rattle.koprzywist.proofs.answer_block.Given as goal
 
 abbrev pub invariant-loop-output : goal.invariant-loop-output

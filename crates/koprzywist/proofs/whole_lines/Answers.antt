@@ -1,9 +1,6 @@
 -- `koprzywist::whole_lines` meets its contract. Assumes nothing.
-use mathlib.Core.Path.{◌≡◌}
-use Prim.Native.Nat.{◌-◌}
-use lib.ListN.{length}
 use borrow.Author.Rules.{rules}
-use Rattle.koprzywist.specs.Blocks.{Lines, at_start}
+use Rattle.koprzywist.specs.Blocks.{at_start}
 use Rattle.koprzywist.proofs.Stepping.{step_onward, and_step, stopped_there, lines_left}
 use Rattle.koprzywist.proofs.whole_lines.Goals as goal
 

@@ -2,9 +2,7 @@
 use mathlib.Core.Path.{◌≡◌}
 use Prim.Native.Nat.{◌-◌}
 use lib.ListN.{length}
-use borrow.Author.Rules.{rules}
-use Rattle.koprzywist.specs.Blocks.{Lines, at_start}
-use Rattle.koprzywist.proofs.Stepping.{step_onward, and_step, stopped_there, lines_left}
+use Rattle.koprzywist.specs.Blocks.{Lines}
 use Rattle.koprzywist.proofs.whole_lines.Given as goal
 
 abbrev pub invariant-loop-next : goal.invariant-loop-next

@@ -2,7 +2,6 @@
 use native.Mathlib.Omega.{arith}
 use Rattle.prefix.proofs.BitLaws.{common_word_le}
 use Rattle.prefix.proofs.AddressLaws.{common_high, common_low}
-use borrow.Author.Rules.{rules}
 use Rattle.prefix.proofs.agreement.Goals as goal
 
 pub returns-then-z-lt64 : goal.returns-then-z-lt64

@@ -3,7 +3,6 @@ use mathlib.Core.Path.{sym, ap, ◌∙◌}
 use native.Mathlib.Omega.{arith}
 use Rattle.prefix.specs.Bits.{digit}
 use Rattle.prefix.proofs.AddressLaws.{at_high, at_low}
-use borrow.Author.Rules.{rules}
 use Rattle.prefix.proofs.bit_at.Goals as goal
 
 pub returns-then-index-lt64 : goal.returns-then-index-lt64

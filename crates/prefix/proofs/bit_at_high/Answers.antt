@@ -3,7 +3,6 @@ use mathlib.Core.Path.{sym, ap, ◌∙◌}
 use native.Mathlib.Omega.{arith}
 use Rattle.prefix.specs.Bits.{digit}
 use Rattle.prefix.proofs.AddressLaws.{at_high}
-use borrow.Author.Rules.{rules}
 use Rattle.prefix.proofs.bit_at_high.Goals as goal
 
 pub returns : goal.returns

@@ -2,7 +2,6 @@
 use mathlib.Core.Path.{sym, ap, ◌∙◌}
 use Prim.Native.Nat.{min}
 use Rattle.prefix.proofs.AddressLaws.{common_high_cap}
-use borrow.Author.Rules.{rules}
 use Rattle.prefix.proofs.common_bits_high.Goals as goal
 
 pub returns : goal.returns

@@ -5,7 +5,6 @@ use lib.Dec.{leb}
 use Rattle.prefix.specs.Addresses.{address_bits}
 use Rattle.prefix.proofs.Tests.{contains_common}
 use Rattle.prefix.proofs.AddressLaws.{length_address}
-use borrow.Author.Rules.{rules}
 use Rattle.prefix.proofs.covers.Goals as goal
 
 pub returns : goal.returns

@@ -2,7 +2,6 @@
 use mathlib.Core.Path.{sym, ap, ◌∙◌}
 use lib.Dec.{leb}
 use Rattle.prefix.proofs.AddressLaws.{contains_high}
-use borrow.Author.Rules.{rules}
 use Rattle.prefix.proofs.covers_high.Goals as goal
 
 pub returns : goal.returns

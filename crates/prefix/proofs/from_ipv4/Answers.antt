@@ -1,6 +1,5 @@
 -- `prefix::from_ipv4` meets its contract. Assumes nothing.
 use Rattle.prefix.proofs.AddressLaws.{bits_of_ipv4, ipv4_zeros}
-use borrow.Author.Rules.{rules}
 use Rattle.prefix.proofs.from_ipv4.Goals as goal
 
 pub returns-clause-first : goal.returns-clause-first

@@ -4,7 +4,6 @@ use Prim.Native.Nat.{◌-◌, ◌/◌, ◌^◌}
 use native.Mathlib.Omega.{arith}
 use Rattle.prefix.specs.Bits.{digit}
 use Rattle.prefix.proofs.BitLaws.{bits_at, digit_bit}
-use borrow.Author.Rules.{rules}
 use Rattle.prefix.proofs.half_bit.Goals as goal
 
 pub returns : goal.returns

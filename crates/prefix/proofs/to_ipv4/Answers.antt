@@ -1,7 +1,6 @@
 -- `prefix::to_ipv4` meets its contract. Assumes nothing.
 use mathlib.Core.Path.{sym}
 use Rattle.prefix.proofs.AddressLaws.{first_word}
-use borrow.Author.Rules.{rules}
 use Rattle.prefix.proofs.to_ipv4.Goals as goal
 
 pub returns : goal.returns

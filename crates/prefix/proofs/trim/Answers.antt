@@ -4,7 +4,6 @@ use mathlib.Core.List.{◌++◌}
 use native.Mathlib.Omega.{arith}
 use Rattle.prefix.specs.Bits.{Bits, bits}
 use Rattle.prefix.proofs.AddressLaws.{trimmed_high, trimmed_low}
-use borrow.Author.Rules.{rules}
 use Rattle.prefix.proofs.trim.Goals as goal
 
 pub returns-then-n-le64 : goal.returns-then-n-le64

@@ -4,7 +4,6 @@ use mathlib.Core.List.{◌++◌}
 use native.Mathlib.Omega.{arith}
 use Rattle.prefix.specs.Bits.{Bits, bits}
 use Rattle.prefix.proofs.AddressLaws.{trimmed_high}
-use borrow.Author.Rules.{rules}
 use Rattle.prefix.proofs.trim_high.Goals as goal
 
 pub returns : goal.returns

@@ -1,6 +1,4 @@
 -- `renewal::renew` meets its contract. Assumes nothing.
-use Prim.Native.Nat.{◌+◌}
-use Rattle.renewal.specs.Passes.{Going}
 use Rattle.renewal.proofs.Going.{going_start, at_slot, going_on, going_done}
 use borrow.Author.Rules.{rules}
 use Rattle.renewal.proofs.renew.Goals as goal

@@ -1,8 +1,6 @@
 -- `renewal::renew` meets its contract. Assumes nothing.
 use Prim.Native.Nat.{◌+◌}
 use Rattle.renewal.specs.Passes.{Going}
-use Rattle.renewal.proofs.Going.{going_start, at_slot, going_on, going_done}
-use borrow.Author.Rules.{rules}
 use Rattle.renewal.proofs.renew.Given as goal
 
 abbrev pub invariant-loop-p : goal.invariant-loop-p

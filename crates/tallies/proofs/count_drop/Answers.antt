@@ -1,5 +1,4 @@
 -- `tallies::count_drop` meets its contract. Assumes nothing.
-use Rattle.std.proofs.Common.{rules}
 use Rattle.tallies.proofs.count_drop.Goals as goal
 
 pub returns : goal.returns

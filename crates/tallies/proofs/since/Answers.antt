@@ -1,5 +1,4 @@
 -- `tallies::since` meets its contract. Assumes nothing.
-use Rattle.std.proofs.Common.{rules}
 use Rattle.tallies.proofs.since.Goals as goal
 
 pub returns : goal.returns
