@@ -1,9 +1,8 @@
 // What a router calls: one function for each public call, under the names and numbers of include/koprzywist.h. The crate
 // c_library_c exports each of them to C.
 //
-// There is no logic here: each function makes the proved call and
-// writes its answer as words; a refused call writes 0 to every word of its answer. What a call moves is counted from zero
-// and added to the record that the caller lends.
+// There is no logic here: each function makes the proved call and writes its answer as words; a refused call writes 0 to
+// every word of its answer. What a call moves is counted from zero and added to the record that the caller lends.
 #![tactic(auto)]
 
 ghost use Rattle.std.specs.Prelude.{◌≡◌, cond, [], ◌∷◌};

@@ -58,7 +58,7 @@ cell_inside m q n h = go (ℕ_discrete q 0)
 
 -- ---- what a cell points at
 
-module _ (w : List ℕ) (cell p nodes : ℕ) (are-nodes : nodes ≡ nodes_of w) (a_cell : ¬ (cell ≡ 1)) (in_Cell : cell / 2 ≤ nodes) (is : p ≡ word w (cell_word cell)) where
+module _ (w : List ℕ) (cell p nodes : ℕ) (are-nodes : nodes ≡ nodes_of w) (a_cell : ¬ (cell ≡ 1)) (in_cell : cell / 2 ≤ nodes) (is : p ≡ word w (cell_word cell)) where
   points_at : numbered p ≡ (trie_of w).child (cell_of cell)
   points_at = ap numbered is ∙ child_word w cell a_cell
 
@@ -96,19 +96,19 @@ module _ (w : List ℕ) (cell p nodes : ℕ) (are-nodes : nodes ≡ nodes_of w) 
 pub goes_root : (w : List ℕ) (cell p : ℕ) → cell ≡ 0 → Verdict w (GoesOn w cell p) true
 goes_root w cell p z = accept (record { fits = rw (z, cell_root) tt })
 
-module _ (w : List ℕ) (cell p : ℕ) (a_cell : ¬ (cell ≡ 1)) (some-cell : ¬ (cell ≡ 0)) (in_Cell : cell / 2 ≤ nodes_of w) (pos : 0 < p) (in_use : p ≤ nodes_of w) (is : p ≡ word w (cell_word cell))
+module _ (w : List ℕ) (cell p : ℕ) (a_cell : ¬ (cell ≡ 1)) (some-cell : ¬ (cell ≡ 0)) (in_cell : cell / 2 ≤ nodes_of w) (pos : 0 < p) (in_use : p ≤ nodes_of w) (is : p ≡ word w (cell_word cell))
     (n own : ℕ) (is-n : n ≡ word w (slot_word (cell / 2) 1)) (is_own : own ≡ word w (slot_word p 1)) where
   abbrev Onward : Type 0
   Onward = Below ((trie_of w).prefix (cell / 2 - 1)) (one? (cell % 2)) ((trie_of w).prefix (p - 1))
 
   onward : SoundTable w → Onward
-  onward S = rw (kid_cell cell (omega arith)) at (pointed w cell p (nodes_of w) refl a_cell in_Cell is S (λ z. omega arith)).fits
+  onward S = rw (kid_cell cell (omega arith)) at (pointed w cell p (nodes_of w) refl a_cell in_cell is S (λ z. omega arith)).fits
 
   pub goes_short : own ≤ n → Verdict w (GoesOn w cell p) false
   goes_short l = refuse (λ S. omega (
     arith,
     below_< (onward S),
-    own_length w (cell / 2) (omega arith) n is-n (rw is-n (S.plain.short (cell / 2) (omega arith) in_Cell)),
+    own_length w (cell / 2) (omega arith) n is-n (rw is-n (S.plain.short (cell / 2) (omega arith) in_cell)),
     own_length w p pos own is_own (rw is_own (S.plain.short p pos in_use)),
   ))
 
