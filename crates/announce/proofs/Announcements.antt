@@ -9,6 +9,7 @@ use native.Mathlib.Omega.{arith}
 use lib.ListN.{length, take, get_or}
 use lib.Dec.{eqb}
 use lib.Seq.{set-get_or}
+use Rattle.std.specs.Prelude.{Ok, Err}
 use Rattle.prefix.specs.Bits.{Bits, bits, one?, digit}
 use Rattle.prefix.specs.Prefix.{contains, common, shared}
 use Rattle.prefix.specs.Addresses.{address_bits, ipv4_bits}
@@ -25,7 +26,6 @@ use Rattle.nodes.specs.Headers.{HeaderRead}
 use Rattle.nodes.specs.Stores.{put_mark, put_counts}
 use Rattle.nodes.specs.declared.Header.{Header}
 use Rattle.nodes.specs.declared.Node.{Node}
-use Rattle.nodes.specs.declared.Shape.TheVariants.{Fits}
 use Rattle.nodes.proofs.Coding.{numbered_node, none_numbered, cell_side}
 use Rattle.nodes.proofs.Spelling.{trie_mark}
 use Rattle.table.specs.Tables.{routes, SoundTable}
@@ -33,7 +33,7 @@ use Rattle.table.proofs.Reading.{length_sought, node_bits}
 use Rattle.announce.specs.Writes.{Roomy, NodeOf, only_child, inserted, with_leaf, above, with_above, with_fork}
 use Rattle.announce.specs.Steps.{announcement, announcement_at, Belongs, Adds, Meets}
 use Rattle.verdicts.specs.Verdicts.{Answered, NodeAt}
-use Rattle.verdicts.specs.declared.Verdict.TheVariants.{Done, Full, Unsound}
+use Rattle.verdicts.specs.declared.UpdateError.TheVariants.{Full, Unsound}
 use Rattle.verdicts.proofs.Linking.{CellIn, inside_cell, other_side, GoodNode}
 use Rattle.verdicts.proofs.Kept.{Kept, kept_all, room, mark_kept}
 use Rattle.verdicts.proofs.After.{hop_after, new_after}
@@ -60,17 +60,17 @@ module _ (w : List ℕ) (h : Header) (p : ℕ) (at : NodeAt w h p) (hop : ℕ) (
     hop_put : Put (Dense (nodes_of w)) (Dense (nodes_of w)) (trie_of w) (hop_at (trie_of w) (p - 1) hop) ((trie_of w).prefix (p - 1)) hop
     hop_put = put_hop s.trie s.branches (p - 1) _ hop (at_live w h p at) refl
 
-  pub at_route : ¬ (mark ≡ 0) → (w' : List ℕ) → w' ≡ put_mark w p (hop + 1) → Answered w w' 0 (announcement_at w p hop) Done
+  pub at_route : ¬ (mark ≡ 0) → (w' : List ℕ) → w' ≡ put_mark w p (hop + 1) → Answered w w' 0 (announcement_at w p hop) (Ok tt)
   at_route route w' e = done w w' 0 _ (λ s. announce_held _ _ 0 _ (omega arith) hop ok (route_held w h p at mark is-mark route)) (λ s.
       let k = hop_kept s in
       let f : w' ≡ put_counts (put_mark w p (hop + 1)) (nodes_of w) (route_count w) = e ∙ rw (← k.header.nodes_are, ← k.header.routes_are, same_counts (put_mark w p (hop + 1))) in
       rw f (hop_after w s k (nodes_of w) (route_count w) (omega arith) (mark - 1) hop _ ok (hop_trie s) (route_there w h p at mark is-mark route) (hop_put s) refl))
 
   module _ (branch : mark ≡ 0) where
-    pub at_branch_full : h.limit ≤ h.routes → Answered w w 0 (announcement_at w p hop) Full
+    pub at_branch_full : h.limit ≤ h.routes → Answered w w 0 (announcement_at w p hop) (Err Full)
     at_branch_full l = full w 0 _ (λ s. announce_full _ _ 0 _ (omega arith) hop ok (branch_new w h p at mark is-mark s branch) (omega (arith, s.counted, at.header.1, at.header.3)))
 
-    pub at_branch : h.routes < h.limit → (u w' : List ℕ) → u ≡ put_mark w p (hop + 1) → w' ≡ put_counts u h.nodes (h.routes + 1) → Answered w w' 0 (announcement_at w p hop) Done
+    pub at_branch : h.routes < h.limit → (u w' : List ℕ) → u ≡ put_mark w p (hop + 1) → w' ≡ put_counts u h.nodes (h.routes + 1) → Answered w w' 0 (announcement_at w p hop) (Ok tt)
     at_branch l u w' e f =
         let g : w' ≡ put_counts (put_mark w p (hop + 1)) (nodes_of w) (route_count w + 1) = rw (e, at.header.2, at.header.3) at f in
         done w w' 0 _ (λ s. announce_room _ _ 0 _ (omega arith) hop ok (branch_new w h p at mark is-mark s branch) (omega (arith, s.counted, at.header.1, at.header.3))) (λ s.
@@ -95,7 +95,7 @@ pub is_meeting : (w : List ℕ) (p : ℕ) (a there : Address) (own agreed : ℕ)
 is_meeting w p a there own agreed e l t c = record { own_short = rw (← e) l; is_there = t; is_agreed = rw (← e) c }
 
 module _ (w : List ℕ) (h : Header) (cell p : ℕ) (a : Address) (n hop : ℕ) (adds : Adds w h cell p a n hop) where
-  header : HeaderRead w (Fits h)
+  header : HeaderRead w (Ok h)
   header = adds.header
 
   short : n ≤ 32
@@ -110,24 +110,24 @@ module _ (w : List ℕ) (h : Header) (cell p : ℕ) (a : Address) (n hop : ℕ) 
   cell_in : SoundTable w → CellIn (nodes_of w) cell
   cell_in s = ((belongs s).is_cell, inside_cell _ cell (belongs s).inside)
 
-  pub new_full : h.limit ≤ h.routes → Answered w w n (announcement a n hop) Full
+  pub new_full : h.limit ≤ h.routes → Answered w w n (announcement a n hop) (Err Full)
   new_full l = full w n _ (λ s. announce_full _ _ n _ short hop ok (belongs s).new (omega (arith, s.counted, header.1, header.3)))
 
   module _ (space : h.routes < h.limit) where
-    pub no_spare : 2 * h.limit < h.nodes + 2 → Answered w w n (announcement a n hop) Unsound
+    pub no_spare : 2 * h.limit < h.nodes + 2 → Answered w w n (announcement a n hop) (Err Unsound)
     unfolding routes
     no_spare l = unsound w w n _ (λ s. omega (arith, slots_spare s.trie s.branches (limit_of w) (omega (arith, s.counted, header.1, header.3)), header.1, header.2))
 
     -- a store that spells the trie with the new prefix
     accepted : (w' u : List ℕ) (m : ℕ) → w' ≡ put_counts u m (h.routes + 1)
         → ((s : SoundTable w) → Kept w m u × ((v : Trie) × (trie_of u ≡ v) × Put (Dense (nodes_of w)) (Dense m) (trie_of w) v (take n (ipv4_bits a)) hop))
-        → Answered w w' n (announcement a n hop) Done
+        → Answered w w' n (announcement a n hop) (Ok tt)
     accepted w' u m e f = done w w' n _ (λ s. announce_room _ _ n _ short hop ok (belongs s).new (omega (arith, s.counted, header.1, header.3))) (λ s.
         let g = f s in
         rw (e, header.3) (new_after w s g.0 m (route_count w + 1) (omega arith) hop g.1.0 ok g.1.1 (belongs s).new g.1.2 refl (omega (arith, header.1, header.3))))
 
     module _ (spare : h.nodes + 2 ≤ 2 * h.limit) (w' : List ℕ) where
-      pub leaf_added : p ≡ 0 → (leaf : Node) → NodeOf (take n (ipv4_bits a)) n (hop + 1) 0 0 cell leaf → w' ≡ with_leaf w h.nodes h.routes leaf → Answered w w' n (announcement a n hop) Done
+      pub leaf_added : p ≡ 0 → (leaf : Node) → NodeOf (take n (ipv4_bits a)) n (hop + 1) 0 0 cell leaf → w' ≡ with_leaf w h.nodes h.routes leaf → Answered w w' n (announcement a n hop) (Ok tt)
       unfolding with_leaf
       leaf_added z leaf is e = accepted w' (inserted w (h.nodes + 1) leaf) (h.nodes + 1) e (λ s.
           let m = nodes_of w in
@@ -146,7 +146,7 @@ module _ (w : List ℕ) (h : Header) (cell p : ℕ) (a : Address) (n hop : ℕ) 
 
       -- node p hangs there
       module _ (pos : 0 < p) where
-        pub long_node : (own : ℕ) → own ≡ word w (slot_word p 1) → 32 < own → Answered w w n (announcement a n hop) Unsound
+        pub long_node : (own : ℕ) → own ≡ word w (slot_word p 1) → 32 < own → Answered w w n (announcement a n hop) (Err Unsound)
         long_node own is_own l = unsound w w n _ (λ s. omega (arith, s.plain.short p pos (omega (arith, header.2, adds.node_in_use))))
 
         module _ (there : Address) (agreed : ℕ) (meets : Meets w p a there agreed) where
@@ -194,7 +194,7 @@ module _ (w : List ℕ) (h : Header) (cell p : ℕ) (a : Address) (n hop : ℕ) 
 
           module _ (side : ℕ) where
             pub above_added : n ≤ agreed → side ≡ digit (get_or (address_bits there) n false) → (node : Node)
-                → NodeOf (take n (ipv4_bits a)) n (hop + 1) (only_child side p 0) (only_child side p 1) cell node → w' ≡ with_above w h.nodes h.routes p side node → Answered w w' n (announcement a n hop) Done
+                → NodeOf (take n (ipv4_bits a)) n (hop + 1) (only_child side p 0) (only_child side p 1) cell node → w' ≡ with_above w h.nodes h.routes p side node → Answered w w' n (announcement a n hop) (Ok tt)
             unfolding with_above
             above_added l is-side node is e = accepted w' (above w h.nodes p side node) (h.nodes + 1) e (λ s.
                 let m = nodes_of w in
@@ -214,7 +214,7 @@ module _ (w : List ℕ) (h : Header) (cell p : ℕ) (a : Address) (n hop : ℕ) 
 
             pub fork_added : agreed < n → side ≡ digit (get_or (address_bits there) agreed false) → (branch leaf : Node)
                 → NodeOf (take agreed (ipv4_bits a)) agreed 0 (only_child side p 0) (only_child side p 1) cell branch → NodeOf (take n (ipv4_bits a)) n (hop + 1) 0 0 (2 * (h.nodes + 1) + (1 - side)) leaf
-                → w' ≡ with_fork w h.nodes h.routes p side branch leaf → Answered w w' n (announcement a n hop) Done
+                → w' ≡ with_fork w h.nodes h.routes p side branch leaf → Answered w w' n (announcement a n hop) (Ok tt)
             unfolding with_fork fork_at
             fork_added l is-side branch leaf is_branch is_IsLeaf e = accepted w' (inserted (above w h.nodes p side branch) (h.nodes + 2) leaf) (h.nodes + 2) e (λ s.
                 let m = nodes_of w in

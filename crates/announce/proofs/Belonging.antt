@@ -6,6 +6,7 @@ use Prim.Native.Nat.{ℕ, ◌+◌, ◌-◌, ◌*◌, ◌/◌, ◌≤◌, ◌<◌
 use native.Mathlib.Omega.{arith}
 use lib.ListN.{take, get_or}
 use lib.Seq.{get_or-take}
+use Rattle.std.specs.Prelude.{Result, Ok, Err}
 use mir.Syntax.{w32}
 use mir.Val as Int
 use Rattle.prefix.specs.Bits.{one?, digit}
@@ -20,8 +21,6 @@ use Rattle.sizes.specs.BothStores.{slot_word, word}
 use Rattle.nodes.specs.Layout.{nodes_of, cell_of, trie_of}
 use Rattle.nodes.specs.Headers.{HeaderRead}
 use Rattle.nodes.specs.declared.Header.{Header}
-use Rattle.nodes.specs.declared.Shape.{Shape}
-use Rattle.nodes.specs.declared.Shape.TheVariants.{Fits}
 use Rattle.nodes.proofs.Coding.{none_numbered, cell_root, cell_side}
 use Rattle.table.specs.Tables.{SoundTable}
 use Rattle.table.specs.Stops.{Stopped}
@@ -29,16 +28,16 @@ use Rattle.table.specs.declared.Stop.{Stop}
 use Rattle.table.proofs.Reading.{length_sought}
 use Rattle.prefix.proofs.BitLaws.{bit_small}
 use Rattle.verdicts.specs.Verdicts.{Answered}
+use Rattle.announce.specs.declared.Route.{Route}
 use Rattle.announce.specs.Steps.{announcement, announcement_at, Sought, Belongs, Adds}
-use Rattle.verdicts.specs.declared.Verdict.{Verdict}
-use Rattle.verdicts.specs.declared.Verdict.TheVariants.{Unsound}
+use Rattle.verdicts.specs.declared.UpdateError.{UpdateError}
+use Rattle.verdicts.specs.declared.UpdateError.TheVariants.{Unsound}
 use Rattle.announce.proofs.Parting.{bit_digit}
 use Rattle.verdicts.proofs.Verdicts.{unsound}
-use Rattle.verdicts.proofs.Stopping.{header_told, stop_last, stop_beyond, last_node, last_length, landed_first, landed_after, landed_new, last_own}
+use Rattle.verdicts.proofs.Stopping.{stop_last, stop_beyond, last_node, last_length, landed_first, landed_after, landed_new, last_own}
 
-module _ (w : List ℕ) (shape : Shape) (read : HeaderRead w shape) (h : Header) (told : shape ≡ Fits h) where
-  pub is_sought : (a : Address) (n hop : ℕ) (stop : Stop) → n ≤ 32 → Hop hop → Stopped w (ipv4_bits a) n stop → Sought w h stop a n hop
-  is_sought a n hop stop l ok at = record { header = header_told w shape read h told; short = l; its_hop = ok; stopped = at }
+pub is_sought : (w : List ℕ) (h : Header) (r : Route) (stop : Stop) → HeaderRead w (Ok h) → r.prefix.length ≤ 32 → Hop r.hop → Stopped w (ipv4_bits r.prefix.address) r.prefix.length stop → Sought w h stop r
+is_sought w h r stop read l ok at = record { header = read; short = l; its_hop = ok; stopped = at }
 
 -- ---- the cell where the descent stopped
 
@@ -75,37 +74,41 @@ module _ (w : List ℕ) (a : Address) (n : ℕ) (short : n ≤ 32) (stop : Stop)
 
 -- ---- an announcement
 
-module _ (w : List ℕ) (h : Header) (stop : Stop) (a : Address) (n hop : ℕ) (sought : Sought w h stop a n hop) where
-  header : HeaderRead w (Fits h)
+module _ (w : List ℕ) (h : Header) (stop : Stop) (r : Route) (sought : Sought w h stop r) where
+  header : HeaderRead w (Ok h)
   header = sought.header
 
-  at : Stopped w (ipv4_bits a) n stop
+  at : Stopped w (ipv4_bits r.prefix.address) r.prefix.length stop
   at = sought.stopped
 
-  adds : (cell : ℕ) → cell / 2 ≤ h.nodes → (SoundTable w → Belongs w (take n (ipv4_bits a)) cell stop.beyond) → Adds w h cell stop.beyond a n hop
+  adds : (cell : ℕ) → cell / 2 ≤ h.nodes → (SoundTable w → Belongs w (take r.prefix.length (ipv4_bits r.prefix.address)) cell stop.beyond) → Adds w h cell stop.beyond r.prefix.address r.prefix.length r.hop
   adds cell l b =
       record { header = header; node_in_use = omega (arith, at.beyond_in, header.2); cell_in_use = l; short = sought.short; its_hop = sought.its_hop; belongs = b }
 
-  pub adds_first : stop.last ≡ 0 → Adds w h 0 stop.beyond a n hop
-  adds_first z = adds 0 (omega arith) (λ s. belongs_first w a n sought.short stop at s (landed_first w a n sought.short stop at s z) z)
+  adds_first : stop.last ≡ 0 → Adds w h 0 stop.beyond r.prefix.address r.prefix.length r.hop
+  adds_first z = adds 0 (omega arith) (λ s. belongs_first w r.prefix.address r.prefix.length sought.short stop at s (landed_first w r.prefix.address r.prefix.length sought.short stop at s z) z)
 
   module _ (pos : 0 < stop.last) where
     some_last : ¬ (stop.last ≡ 0)
     some_last z = omega arith
 
     module _ (own : ℕ) (is_own : own ≡ word w (slot_word stop.last 1)) where
-      pub sought_own : own ≡ n → (w' : List ℕ) (r : Verdict) → Answered w w' 0 (announcement_at w stop.last hop) r → Answered w w' n (announcement a n hop) r
-      sought_own e w' r g = last_own w a n sought.short stop at some_last own is_own e w' _ r g
+      pub sought_own : own ≡ r.prefix.length → (w' : List ℕ) (x : Result (Unit {0}) UpdateError) → Answered w w' 0 (announcement_at w stop.last r.hop) x → Answered w w' r.prefix.length (announcement r.prefix.address r.prefix.length r.hop) x
+      sought_own e w' x g = last_own w r.prefix.address r.prefix.length sought.short stop at some_last own is_own e w' _ x g
 
-      pub cell_fits : (side : ℕ) → side ≡ digit (get_or (address_bits a) own false) → Int.Fits w32 (2 * stop.last + side)
-      cell_fits side e = omega (arith, header.0.legal, header.0.nodes_fit, at.last_in, bit_small (address_bits a) own side e)
+      pub cell_fits : (side : ℕ) → side ≡ digit (get_or (address_bits r.prefix.address) own false) → Int.Fits w32 (2 * stop.last + side)
+      cell_fits side e = omega (arith, header.0.legal, header.0.nodes_fit, at.last_in, bit_small (address_bits r.prefix.address) own side e)
 
-      module _ (other : ¬ (own ≡ n)) where
-        landed : SoundTable w → Landed (Dense (nodes_of w)) (trie_of w) (take n (ipv4_bits a)) (walk.descent (trie_of w) (take n (ipv4_bits a)))
-        landed s = landed_after w a n sought.short stop at s some_last own is_own other
+      module _ (other : ¬ (own ≡ r.prefix.length)) where
+        landed : SoundTable w → Landed (Dense (nodes_of w)) (trie_of w) (take r.prefix.length (ipv4_bits r.prefix.address)) (walk.descent (trie_of w) (take r.prefix.length (ipv4_bits r.prefix.address)))
+        landed s = landed_after w r.prefix.address r.prefix.length sought.short stop at s some_last own is_own other
 
-        pub sought_long : 31 < own → Answered w w n (announcement a n hop) Unsound
-        sought_long l = unsound w w n _ (λ s. omega (arith, sought.short, own_shorter w a n sought.short stop at s (landed s) some_last own is_own))
+        pub sought_long : 31 < own → Answered w w r.prefix.length (announcement r.prefix.address r.prefix.length r.hop) (Err Unsound)
+        sought_long l = unsound w w r.prefix.length _ (λ s. omega (arith, sought.short, own_shorter w r.prefix.address r.prefix.length sought.short stop at s (landed s) some_last own is_own))
 
-        pub adds_after : (side : ℕ) → side ≡ digit (get_or (address_bits a) own false) → Adds w h (2 * stop.last + side) stop.beyond a n hop
-        adds_after side e = adds (2 * stop.last + side) (omega (arith, at.last_in, header.2, bit_small (address_bits a) own side e)) (λ s. belongs_after w a n sought.short stop at s (landed s) some_last own is_own side e)
+        pub adds_after : (side : ℕ) → side ≡ digit (get_or (address_bits r.prefix.address) own false) → Adds w h (2 * stop.last + side) stop.beyond r.prefix.address r.prefix.length r.hop
+        adds_after side e = adds (2 * stop.last + side) (omega (arith, at.last_in, header.2, bit_small (address_bits r.prefix.address) own side e)) (λ s. belongs_after w r.prefix.address r.prefix.length sought.short stop at s (landed s) some_last own is_own side e)
+
+pub first_adds : (w : List ℕ) (h : Header) (r : Route) (stop : Stop) → HeaderRead w (Ok h) → r.prefix.length ≤ 32 → Hop r.hop
+    → Stopped w (ipv4_bits r.prefix.address) r.prefix.length stop → stop.last ≡ 0 → Adds w h 0 stop.beyond r.prefix.address r.prefix.length r.hop
+first_adds w h r stop read l ok stopped z = adds_first w h stop r (is_sought w h r stop read l ok stopped) z

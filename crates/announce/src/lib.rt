@@ -4,144 +4,168 @@
 ghost use Rattle.std.specs.Prelude.{◌≤◌, ◌<◌};
 ghost use Rattle.model.specs.Demands.{Hop};
 ghost use Rattle.announce.specs.Writes.{Roomy};
-ghost use Rattle.announce.specs.Steps.{announcement, announcement_at, Sought, Adds, Meets};
+ghost use Rattle.announce.specs.Steps.{announcement, announcement_of, announcement_at, Sought, Comes, Meets};
 ghost use Rattle.verdicts.specs.Verdicts.{Answered, NodeAt};
 
-use nodes::{Header, Shape};
-use prefix::Address;
+use nodes::Header;
+use nodes::view::Nodes;
+use prefix::ipv4::Prefix;
+use prefix::{Address, HALF};
+use sizes::slot;
 use table::Stop;
-use verdicts::Verdict;
+use verdicts::UpdateError;
 
 mod growing;
 
-// The first bits of an address, as many as the length says, with a hop.
-#[derive(Clone, Copy)]
+// A prefix with a hop.
+#[derive(Clone, Copy, Debug)]
 struct Route {
-    address: Address,
-    length: u32,
+    prefix: Prefix,
     hop: u32,
 }
 
-// The route of the first n bits of a, with a hop.
-pub fn announce(store: &mut [u32], a: Address, n: u32, hop: u32) -> Verdict
-    requires { (n ≤ 32) × Hop hop }
-    ensures { Answered store.old store.new n (announcement a n hop) result }
+// The route of the prefix, with a hop.
+pub fn announce(store: &mut [u32], prefix: Prefix, hop: u32) -> Result<(), UpdateError>
+    requires hop { Hop hop }
+    ensures { Answered store.old store.new prefix.length (announcement prefix.address prefix.length hop) result }
 {
-    let Shape::Fits(h) = nodes::read_header(store) else {
-        return Verdict::Unsound;
+    let header = nodes::read_header(store)?;
+    let lent = Nodes {
+        store,
+        count: header.nodes,
     };
-    let stop = table::descend(store, h.nodes, a, n);
-    let route = Route {
-        address: a,
-        length: n,
-        hop,
-    };
+    let stop = table::descend(lent, prefix);
+    let route = Route { prefix, hop };
     if stop.last == 0 {
-        return add(store, h, 0, stop.beyond, route);
+        let newcomer = Newcomer {
+            header,
+            route,
+            cell: 0,
+            below: stop.beyond,
+        };
+        return newcomer.add(store);
     }
-    announce_below(store, h, stop, route)
+    announce_below(store, header, stop, route)
 }
 
 // The last node that contains the prefix is its own, or the prefix belongs below it.
-fn announce_below(store: &mut [u32], h: Header, stop: Stop, r: Route) -> Verdict
-    requires { Sought store.old h stop r.address r.length r.hop × (0 < stop.last) }
-    ensures { Answered store.old store.new r.length (announcement r.address r.length r.hop) result }
+fn announce_below(
+    store: &mut [u32],
+    header: Header,
+    stop: Stop,
+    route: Route,
+) -> Result<(), UpdateError>
+    requires sought { Sought store.old header stop route }
+    requires contained { 0 < stop.last }
+    ensures { Answered store.old store.new route.prefix.length (announcement_of route) result }
 {
     let last = stop.last;
     let own = nodes::length_of(store, last);
-    if own == r.length {
-        return renew(store, h, last, r.hop);
+    if own == route.prefix.length {
+        return renew(store, header, last, route.hop);
     }
     if 31 < own {
-        return Verdict::Unsound;
+        return Err(UpdateError::Unsound);
     }
-    let side = prefix::bit_at_high(r.address, own);
-    add(store, h, 2 * last + side, stop.beyond, r)
+    let cell = 2 * last + route.prefix.address.bit_at::<HALF>(own);
+    let newcomer = Newcomer {
+        header,
+        route,
+        cell,
+        below: stop.beyond,
+    };
+    newcomer.add(store)
 }
 
 // The prefix has its node: a route takes the hop, and a branch becomes a route, if there is room.
-fn renew(store: &mut [u32], h: Header, p: u32, hop: u32) -> Verdict
-    requires { NodeAt store.old h p × Hop hop }
+fn renew(store: &mut [u32], h: Header, p: u32, hop: u32) -> Result<(), UpdateError>
+    requires node { NodeAt store.old h p }
+    requires hop { Hop hop }
     ensures { Answered store.old store.new 0 (announcement_at store.old p hop) result }
 {
     if nodes::mark_of(store, p) != 0 {
         nodes::set_mark(store, p, hop + 1);
-        return Verdict::Done;
+        return Ok(());
     }
     if h.routes < h.limit {
         nodes::set_mark(store, p, hop + 1);
         nodes::set_counts(store, h.nodes, h.routes + 1);
-        return Verdict::Done;
+        return Ok(());
     }
-    Verdict::Full
+    Err(UpdateError::Full)
 }
 
-// The prefix has no node and belongs in the cell, where node p hangs, or none.
-fn add(store: &mut [u32], h: Header, cell: u32, p: u32, r: Route) -> Verdict
-    requires { Adds store.old h cell p r.address r.length r.hop }
-    ensures { Answered store.old store.new r.length (announcement r.address r.length r.hop) result }
-{
-    if h.limit <= h.routes {
-        return Verdict::Full;
-    }
-    if 2 * h.limit < h.nodes + 2 {
-        return Verdict::Unsound;
-    }
-    if p == 0 {
-        growing::add_leaf(
-            store,
-            h,
-            growing::node_of(r.address, r.length, r.hop + 1, 0, 0, cell),
-        );
-        return Verdict::Done;
-    }
-    add_at(store, h, cell, p, r)
-}
-
-// The same where node p hangs, and there is room.
-fn add_at(store: &mut [u32], h: Header, cell: u32, p: u32, r: Route) -> Verdict
-    requires { Adds store.old h cell p r.address r.length r.hop × Roomy store.old h × (0 < p) }
-    ensures { Answered store.old store.new r.length (announcement r.address r.length r.hop) result }
-{
-    let own = nodes::length_of(store, p);
-    if 32 < own {
-        return Verdict::Unsound;
-    }
-    let there = nodes::address_of(store, p);
-    let agreed = prefix::common_bits_high(r.address, there, own);
-    if r.length <= agreed {
-        let side = prefix::bit_at_high(there, r.length);
-        let node = growing::above_node(r.address, r.length, r.hop + 1, side, p, cell);
-        growing::add_above(store, h, p, side, node);
-        return Verdict::Done;
-    }
-    add_beside(store, h, cell, p, r, there, agreed)
-}
-
-// The prefix and node p part after the agreed bits: a branch holds these, and the prefix is a leaf on its other side.
-fn add_beside(
-    store: &mut [u32],
-    h: Header,
+// A route whose prefix has no node and belongs in the cell, where the node `below` hangs, or 0 for none, as in the words.
+#[derive(Clone, Copy, Debug)]
+struct Newcomer {
+    header: Header,
+    route: Route,
     cell: u32,
-    p: u32,
-    r: Route,
-    there: Address,
-    agreed: u32,
-) -> Verdict
-    requires adds { Adds store.old h cell p r.address r.length r.hop × Roomy store.old h × (0 < p) }
-    requires meets { Meets store.old p r.address there agreed × (agreed < r.length) }
-    ensures { Answered store.old store.new r.length (announcement r.address r.length r.hop) result }
-{
-    let side = prefix::bit_at_high(there, agreed);
-    let branch = growing::above_node(r.address, agreed, 0, side, p, cell);
-    let leaf = growing::node_of(
-        r.address,
-        r.length,
-        r.hop + 1,
-        0,
-        0,
-        2 * (h.nodes + 1) + (1 - side),
-    );
-    growing::add_fork(store, h, p, side, branch, leaf);
-    Verdict::Done
+    below: u32,
+}
+
+impl Newcomer {
+    fn add(self, store: &mut [u32]) -> Result<(), UpdateError>
+        requires comes { Comes store.old self }
+        ensures { Answered store.old store.new self.route.prefix.length (announcement_of self.route) result }
+    {
+        let h = self.header;
+        if h.limit <= h.routes {
+            return Err(UpdateError::Full);
+        }
+        if 2 * h.limit < h.nodes + 2 {
+            return Err(UpdateError::Unsound);
+        }
+        if self.below == 0 {
+            let r = self.route;
+            growing::add_leaf(store, h, growing::leaf_of(r.prefix, r.hop + 1, self.cell));
+            return Ok(());
+        }
+        self.add_at_node(store)
+    }
+
+    // The same where a node hangs, and there is room.
+    fn add_at_node(self, store: &mut [u32]) -> Result<(), UpdateError>
+        requires comes { Comes store.old self }
+        requires roomy { Roomy store.old self.header }
+        requires some_below { 0 < self.below }
+        ensures { Answered store.old store.new self.route.prefix.length (announcement_of self.route) result }
+    {
+        let r = self.route;
+        let own = nodes::length_of(store, self.below);
+        if 32 < own {
+            return Err(UpdateError::Unsound);
+        }
+        let there = slot::address_of(store, self.below);
+        let agreed = r.prefix.address.common_bits::<HALF>(there, own);
+        if r.prefix.length <= agreed {
+            let side = there.bit_at::<HALF>(r.prefix.length);
+            let node = growing::above_of(r.prefix, r.hop + 1, self.cell, side, self.below);
+            growing::add_above(store, self.header, self.below, side, node);
+            return Ok(());
+        }
+        self.add_beside(store, there, agreed)
+    }
+
+    // The prefix and that node part after the agreed bits: a branch holds these, and the prefix is a leaf on its other side.
+    fn add_beside(self, store: &mut [u32], there: Address, agreed: u32) -> Result<(), UpdateError>
+        requires comes { Comes store.old self }
+        requires roomy { Roomy store.old self.header }
+        requires some_below { 0 < self.below }
+        requires meets { Meets store.old self.below self.route.prefix.address there agreed }
+        requires parts { agreed < self.route.prefix.length }
+        ensures { Answered store.old store.new self.route.prefix.length (announcement_of self.route) result }
+    {
+        let r = self.route;
+        let side = there.bit_at::<HALF>(agreed);
+        let shared = Prefix {
+            address: r.prefix.address,
+            length: agreed,
+        };
+        let branch = growing::above_of(shared, 0, self.cell, side, self.below);
+        let other = 2 * (self.header.nodes + 1) + (1 - side);
+        let leaf = growing::leaf_of(r.prefix, r.hop + 1, other);
+        growing::add_fork(store, self.header, self.below, side, branch, leaf);
+        Ok(())
+    }
 }

@@ -2,13 +2,14 @@
 use Prim.Native.Nat.{ℕ, zero, suc, ◌+◌, ◌*◌, ◌/◌, ◌%◌, ◌^◌, ◌≤◌, ◌<◌}
 use native.Mathlib.Nat.{pow-suc}
 use native.Mathlib.Omega.{arith}
-use mathlib.Core.Path.{◌≡◌, ◌∙◌}
-use mathlib.Core.List.{[], ◌∷◌, ◌++◌, append_assoc}
+use mathlib.Core.Path.{◌≡◌, sym, ◌∙◌}
+use mathlib.Core.List.{[], ◌∷◌, ◌++◌}
 use lib.ListN.{length, length-append}
 use lib.Dec.{ltb}
 use borrow.Author.Tests.{lt-ltb, le-ltb}
 use Rattle.answers.specs.Answers.{decimal_in, decimal, dotted, answer_of, room}
-use Rattle.answers.specs.Writing.{three}
+use Rattle.std.specs.Fmt as library
+use Rattle.std.proofs.lemmas.Fmt.{decimal_by_steps}
 use Rattle.answers.specs.declared.Said.{Said}
 use Rattle.answers.specs.declared.Said.TheVariants.{Done, Hit, Miss, Drop, Refused, Bad, Tallies}
 use Rattle.answers.proofs.Booleans.{by_cases}
@@ -34,30 +35,19 @@ decimal_more n h k = last_digit ∙ rw (more_places 8 (n / 10) (omega arith))
     last_digit : decimal_in 10 n ≡ decimal_in 9 (n / 10) ++ ((48 + n % 10) ∷ [])
     last_digit = unfold decimal_in in rw (le-ltb n 10 h)
 
-pub decimal_two : (n : ℕ) → 10 ≤ n → n < 100 → decimal n ≡ (48 + n / 10) ∷ (48 + n % 10) ∷ []
-decimal_two n h k = rw (decimal_more n h (omega arith), decimal_digit (n / 10) (omega arith))
-
-pub decimal_three : (n : ℕ) → 100 ≤ n → n < 1000 → decimal n ≡ three n
-unfolding three
-decimal_three n h k =
-    let first : n / 10 / 10 ≡ n / 100 % 10 = omega arith in
-    rw (decimal_more n (omega arith) (omega arith), decimal_two (n / 10) (omega arith) (omega arith), first)
-
--- the last three digits, and those before them
-pub decimal_thousands : (n : ℕ) → 1000 ≤ n → n < 2 ^ 32 → decimal n ≡ decimal (n / 1000) ++ three (n % 1000)
-unfolding three
-decimal_thousands n h k =
-    let before : n / 10 / 10 / 10 ≡ n / 1000 = omega arith in
-    let first : n / 10 / 10 % 10 ≡ n % 1000 / 100 % 10 = omega arith in
-    let second : n / 10 % 10 ≡ n % 1000 / 10 % 10 = omega arith in
-    let third : n % 10 ≡ n % 1000 % 10 = omega arith in
-    let e = decimal_more n (omega arith) k in
-    let f = decimal_more (n / 10) (omega arith) (omega arith) in
-    let g = decimal_more (n / 10 / 10) (omega arith) (omega arith) in
-    let digits = append_assoc (decimal (n / 10 / 10 / 10) ++ ((48 + n / 10 / 10 % 10) ∷ [])) ((48 + n / 10 % 10) ∷ []) ((48 + n % 10) ∷ []) in
-    rw (e, f, g, digits, append_assoc, before, first, second, third)
+-- std's own text of a number
+pub same_decimal : (n : ℕ) → n < 2 ^ 32 → library.decimal n ≡ decimal n
+same_decimal n h = decimal_by_steps (λ m digits. m < 2 ^ 32 → digits ≡ decimal m) (λ m small k. sym (decimal_digit m small)) (λ m digits large before k. rw (decimal_more m large k, before (omega arith))) n (omega arith) h
 
 -- ---- how many digits
+
+-- by the power of ten below it
+pub digits_of_power : (k n : ℕ) → 10 ^ k ≤ n → n < 10 * 10 ^ k → n < 2 ^ 32 → length (decimal n) ≡ k + 1
+digits_of_power zero n h k fits = rw (decimal_digit n (omega arith)) (omega arith)
+digits_of_power (suc k) n h small fits =
+    let low : 10 ^ k * 10 ≤ n = rw pow-suc at h in
+    let high : n < 10 * (10 ^ k * 10) = rw pow-suc at small in
+    rw (decimal_more n (omega arith) fits, length-append, digits_of_power k (n / 10) (omega arith) (omega arith) (omega arith)) (omega arith)
 
 at_most : (places n : ℕ) → length (decimal_in places n) ≤ places
 unfolding decimal_in
@@ -79,6 +69,9 @@ few_digits (suc j) (suc k) n h =
     (λ e.
     let h' : n < 10 ^ suc j * 10 = rw pow-suc at h in
     rw (e, length-append) (omega (arith, few_digits j k (n / 10) (omega arith))))
+
+pub one_digit : 1 ≡ length (decimal 0)
+one_digit = rw (decimal_digit 0 (omega arith))
 
 pub three_digits : (n : ℕ) → n < 256 → length (decimal n) ≤ 3
 unfolding decimal

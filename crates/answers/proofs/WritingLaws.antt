@@ -1,19 +1,24 @@
 -- One law for each answer of the functions that write. Assumes nothing.
-use Prim.Native.Nat.{ℕ, suc, ◌+◌, ◌-◌, ◌/◌, ◌%◌, ◌^◌, ◌≤◌, ◌<◌}
-use native.Mathlib.Numerals.{add-one}
+use Prim.Native.Nat.{ℕ, ◌+◌, ◌-◌, ◌/◌, ◌%◌, ◌^◌, ◌≤◌, ◌<◌}
 use native.Mathlib.Omega.{arith}
-use mathlib.Core.Path.{◌≡◌, refl, ap, ◌∙◌}
+use mathlib.Core.Path.{◌≡◌, refl, sym, ◌∙◌}
 use mathlib.Core.List.{List, ◌++◌, append_assoc}
-use lib.ListN.{length, set, take, get_or, length-append, length-set}
-use lib.Seq.{sets, take-suc, length-take-le, take_all}
+use lib.ListN.{length, take, drop, get_or, length-append}
+use Rattle.std.proofs.lemmas.List.{take-append-drop}
+use lib.Seq.{drop-drop}
+use Rattle.std.proofs.lemmas.List.Edits.{sets-eq}
+use Rattle.std.specs.Fmt as library
+use Rattle.std.specs.Int.{to_be_bytes}
+use mir.Syntax.{w32}
+use borrow.Rule.Slice.PartMut.{put_mid}
 use borrow.Author.Tests.{le-leb, lt-leb}
 use Rattle.answers.specs.Answers.{decimal, said, dotted, answer_of, room, Printed}
 use Rattle.answers.specs.Text.{text}
-use Rattle.answers.specs.Writing.{three, Written}
+use Rattle.answers.specs.Writing.{Written}
 use Rattle.answers.specs.declared.Said.{Said}
 use Rattle.answers.specs.declared.Said.TheVariants.{Done, Hit, Miss, Drop, Refused, Bad, Tallies}
 use Rattle.answers.proofs.Storing.{sets_append}
-use Rattle.answers.proofs.DecimalLaws.{decimal_digit, decimal_two, decimal_three, decimal_thousands, ten_digits, three_digits}
+use Rattle.answers.proofs.DecimalLaws.{same_decimal, ten_digits, three_digits}
 
 -- ---- one after the other
 
@@ -23,122 +28,31 @@ wrote_both {l} {m} {q} {at} {i} {r} {x} {y} v w = record {
   ended = rw (w.ended, v.ended, length-append) (omega arith);
 }
 
--- ---- a number
+-- ---- a word, and a number
 
-three_long : (n : ℕ) → length (three n) ≡ 3
-unfolding three
-three_long n = refl
+-- the part of the buffer is the word
+module _ (l part w : List ℕ) (at size : ℕ) where
+  pub wrote_word : part ≡ w → size ≡ length w → at + length w ≤ length l → Written l (put_mid at size l part) at w (at + length w)
+  wrote_word is its_size room = record {
+    stored = rw (is, its_size, sets-eq w l at room, append_assoc, drop-drop);
+    ended = refl;
+  }
 
-module _ (l : List ℕ) (at : ℕ) (room : at + 3 ≤ length l) (v : ℕ) where
-  pub room_in_second : at + 1 < length (set l at v)
-  room_in_second = rw (length-set l at v) (omega arith)
+module _ (at n end : ℕ) (fits : n < 2 ^ 32) (its_end : end ≡ at + length (decimal n)) where
+  pub room_for_digits : length (library.decimal n) ≤ end
+  room_for_digits = rw (same_decimal n fits) (omega arith)
 
-  pub room_in_third : (u : ℕ) → at + 2 < length (set (set l at v) (at + 1) u)
-  room_in_third u = rw (length-set (set l at v) (at + 1) u, length-set l at v) (omega arith)
-
-pub wrote_three : (l : List ℕ) (at n : ℕ) → n < 1000 → Written l (set (set (set l at (48 + n / 100)) (at + 1) (48 + n / 10 % 10)) (at + 2) (48 + n % 10)) at (three n) (at + 3)
-unfolding three
-wrote_three l at n h =
-    let one : at + 1 ≡ suc at = omega arith in
-    let two : at + 2 ≡ suc (suc at) = omega arith in
-    let first : n / 100 % 10 ≡ n / 100 = omega arith in
-    record { stored = rw (one, two, first); ended = refl }
-
-module _ (l : List ℕ) (at n : ℕ) where
-  pub room_for_digit : n < 10 → at + length (decimal n) ≤ length l → at < length l
-  room_for_digit small h = let k : at + 1 ≤ length l = rw (decimal_digit n small) at h in omega arith
-
-  pub wrote_digit : n < 10 → Written l (set l at (48 + n)) at (decimal n) (at + 1)
-  wrote_digit small = record { stored = rw (decimal_digit n small); ended = rw (decimal_digit n small) }
-
-  module _ (large : 10 ≤ n) (small : n < 100) where
-    module _ (room : at + length (decimal n) ≤ length l) where
-      two : at + 2 ≤ length l
-      two = rw (decimal_two n large small) at room
-
-      pub room_for_first : at < length l
-      room_for_first = omega (arith, two)
-
-      pub room_for_second : (v : ℕ) → at + 1 < length (set l at v)
-      room_for_second v = rw (length-set l at v) (omega (arith, two))
-
-    pub wrote_two : Written l (set (set l at (48 + n / 10)) (at + 1) (48 + n % 10)) at (decimal n) (at + 2)
-    wrote_two =
-        let one : at + 1 ≡ suc at = omega arith in
-        record { stored = rw (decimal_two n large small, one); ended = rw (decimal_two n large small) }
-
-  module _ (large : 100 ≤ n) (small : n < 1000) where
-    pub room_for_three : at + length (decimal n) ≤ length l → at + 3 ≤ length l
-    room_for_three h = rw (decimal_three n large small, three_long n) at h
-
-    pub wrote_small : (q : List ℕ) (r : ℕ) → Written l q at (three n) r → Written l q at (decimal n) r
-    wrote_small q r w = rw (decimal_three n large small) w
-
--- ---- a number of more digits
-
-module _ (n : ℕ) (large : 1000 ≤ n) (fits : n < 2 ^ 32) where
-  three_more : length (decimal n) ≡ length (decimal (n / 1000)) + 3
-  three_more = rw (decimal_thousands n large fits, length-append, three_long)
-
-  pub wrote_thousands : {l m q : List ℕ} {at i r : ℕ} → Written l m at (decimal (n / 1000)) i → Written m q i (three (n % 1000)) r → Written l q at (decimal n) r
-  wrote_thousands v w = rw (decimal_thousands n large fits) (wrote_both v w)
-
-  module _ (l : List ℕ) (at : ℕ) (room : at + length (decimal n) ≤ length l) where
-    pub room_before : at + length (decimal (n / 1000)) ≤ length l
-    room_before = omega (arith, three_more)
-
-    pub room_after : (m : List ℕ) (i : ℕ) → Written l m at (decimal (n / 1000)) i → length m ≡ length l → i + 3 ≤ length m
-    room_after m i w kept = omega (arith, three_more, w.ended)
-
--- the same twice
-module _ (n : ℕ) (large : 1000000 ≤ n) (fits : n < 2 ^ 32) where
-  pub millions : n / 1000 / 1000 ≡ n / 1000000
-  millions = omega arith
-
-  module _ (l : List ℕ) (at : ℕ) (room : at + length (decimal n) ≤ length l) where
-    pub room_before_millions : at + length (decimal (n / 1000000)) ≤ length l
-    room_before_millions = rw millions at (room_before (n / 1000) (omega arith) (omega arith) l at (room_before n (omega arith) fits l at room))
-
-    module _ (m : List ℕ) (i : ℕ) (w : Written l m at (decimal (n / 1000000)) i) (kept : length m ≡ length l) where
-      before : Written l m at (decimal (n / 1000 / 1000)) i
-      before = rw millions w
-
-      pub room_after_millions : i + 3 ≤ length m
-      room_after_millions = room_after (n / 1000) (omega arith) (omega arith) l at (room_before n (omega arith) fits l at room) m i before kept
-
-      module _ (o : List ℕ) (j : ℕ) (v : Written m o i (three (n / 1000 % 1000)) j) where
-        thousands : Written l o at (decimal (n / 1000)) j
-        thousands = wrote_thousands (n / 1000) (omega arith) (omega arith) before v
-
-        pub room_after_thousands : length o ≡ length m → j + 3 ≤ length o
-        room_after_thousands same = room_after n (omega arith) fits l at room o j thousands (same ∙ kept)
-
-        pub wrote_millions : (q : List ℕ) (r : ℕ) → Written o q j (three (n % 1000)) r → Written l q at (decimal n) r
-        wrote_millions q r u = wrote_thousands n (omega arith) fits thousands u
-
--- ---- a word: i of its bytes are stored
-
-module _ (l w : List ℕ) (at : ℕ) where
-  pub record Copied (out : List ℕ) (i : ℕ) : Type 0 where
-    pub stored : out ≡ sets l at (take i w)
-    pub inside : i ≤ length w
-    pub kept : length out ≡ length l
-
-  pub none_copied : Copied l 0
-  none_copied = record { stored = refl; inside = omega arith; kept = refl }
-
-  module _ (out : List ℕ) (i : ℕ) (h : Copied out i) where
-    pub copied_more : i < length w → Copied (set out (at + i) (get_or w i 0)) (i + 1)
-    copied_more k = record {
-      stored = rw (h.stored, add-one, take-suc w i 0 k, sets_append, length-take-le i w h.inside);
-      inside = omega arith;
-      kept = length-set out (at + i) (get_or w i 0) ∙ h.kept;
-    }
-
-    pub wrote_word : length w ≤ i → Written l out at w (at + i)
-    wrote_word k =
-        let e : i ≡ length w = omega (arith, h.inside) in
-        record { stored = h.stored ∙ ap (sets l at) (take_all i w k); ended = rw e }
+  -- the digits stand before the end
+  pub wrote_number : (l q : List ℕ) (start : ℕ) → at + length (decimal n) ≤ length l → start + length (library.decimal n) ≡ end → drop start q ≡ library.decimal n ++ drop end l → take start q ≡ take start l → Written l q at (decimal n) end
+  wrote_number l q start room begins written before =
+      let same_length : length (library.decimal n) ≡ length (decimal n) = rw (same_decimal n fits) in
+      let at_start : start ≡ at = omega arith in
+      let digits : drop at q ≡ decimal n ++ drop (at + length (decimal n)) l = rw (at_start, same_decimal n fits, its_end) at written in
+      let earlier : take at q ≡ take at l = rw at_start at before in
+      record {
+        stored = sym (take-append-drop at q) ∙ rw (sets-eq (decimal n) l at room, digits, earlier, append_assoc);
+        ended = its_end;
+      }
 
 -- ---- a word and a number
 
@@ -151,22 +65,36 @@ module _ (l m w : List ℕ) (at i n : ℕ) (v : Written l m at w i) where
 
 -- ---- an address
 
-module _ (l m mark : List ℕ) (at i n : ℕ) (v : Written l m at mark i) (one : length mark ≡ 1) where
-  pub room_for_octet : length m ≡ length l → at + 11 ≤ length l → i + length (decimal n) ≤ length m
-  room_for_octet k h = omega (arith, ten_digits n, v.ended)
+module _ (l m mark : List ℕ) (at i n : ℕ) (v : Written l m at mark i) (one : length mark ≡ 1) (octet : n < 256) where
+  pub room_for_octet : length m ≡ length l → at + 4 ≤ length l → i + length (decimal n) ≤ length m
+  room_for_octet k h = omega (arith, three_digits n octet, v.ended)
 
-  pub octet_ends : (q : List ℕ) (r : ℕ) → Written m q i (decimal n) r → n ≤ 255 → r ≤ at + 4
-  octet_ends q r u small = omega (arith, three_digits n (omega arith), v.ended, u.ended)
+  pub octet_ends : (q : List ℕ) (r : ℕ) → Written m q i (decimal n) r → r ≤ at + 4
+  octet_ends q r u = omega (arith, three_digits n octet, v.ended, u.ended)
 
-pub wrote_address :
-    {l m₁ m₂ m₃ q : List ℕ} {at i j k r : ℕ} (a : ℕ)
-    → Written l m₁ at (text " " ++ decimal (a / 16777216)) i
-    → Written m₁ m₂ i (said "." (a / 65536 % 256)) j
-    → Written m₂ m₃ j (said "." (a / 256 % 256)) k
-    → Written m₃ q k (said "." (a % 256)) r
-    → Written l q at (text " " ++ dotted a) r
-unfolding dotted
-wrote_address a w₁ w₂ w₃ w₄ = wrote_both (wrote_both (wrote_both w₁ w₂) w₃) w₄
+-- the address's bytes are its octets
+module _ (a : ℕ) (fits : a < 2 ^ 32) (bytes : List ℕ) (are : bytes ≡ to_be_bytes w32 a) where
+  first_octet : get_or bytes 0 0 ≡ a / 16777216
+  first_octet = rw are (omega arith)
+
+  second_octet : get_or bytes 1 0 ≡ a / 65536 % 256
+  second_octet = rw are
+
+  third_octet : get_or bytes 2 0 ≡ a / 256 % 256
+  third_octet = rw are
+
+  last_octet : get_or bytes 3 0 ≡ a % 256
+  last_octet = rw are
+
+  pub wrote_address :
+      {l m₁ m₂ m₃ q : List ℕ} {at i j k r : ℕ}
+      → Written l m₁ at (text " " ++ decimal (get_or bytes 0 0)) i
+      → Written m₁ m₂ i (said "." (get_or bytes 1 0)) j
+      → Written m₂ m₃ j (said "." (get_or bytes 2 0)) k
+      → Written m₃ q k (said "." (get_or bytes 3 0)) r
+      → Written l q at (text " " ++ dotted a) r
+  unfolding dotted
+  wrote_address w₁ w₂ w₃ w₄ = rw (first_octet, second_octet, third_octet, last_octet) at (wrote_both (wrote_both (wrote_both w₁ w₂) w₃) w₄)
 
 -- ---- the lines
 
@@ -186,14 +114,8 @@ module _ {l m₁ m₂ : List ℕ} {at i j : ℕ} where
       wrote_miss h a b x w₁ w₂ w₃ w₄ w₅ = let w = wrote_both (wrote_both (wrote_both (wrote_both w₁ w₂) w₃) w₄) w₅ in rw (append_assoc (decimal h) (text " ") (dotted a)) w
 
 module _ (s : Said) (at : ℕ) (l : List ℕ) where
-  nothing : length l < at + room → Printed s at l l at
-  nothing h = record { stored = rw (lt-leb _ _ h); ended = rw (lt-leb _ _ h) }
-
-  pub short_buffer : length l < room → Printed s at l l at
-  short_buffer h = nothing (omega arith)
-
-  pub no_room : room ≤ length l → length l - room < at → Printed s at l l at
-  no_room k h = nothing (omega arith)
+  pub no_room : length l < at + room → Printed s at l l at
+  no_room h = record { stored = rw (lt-leb _ _ h); ended = rw (lt-leb _ _ h) }
 
   module _ (long : room ≤ length l) (inside : at ≤ length l - room) (q : List ℕ) (r : ℕ) where
     printed : {t : Said} → s ≡ t → Written l q at (answer_of t) r → Printed s at l q r

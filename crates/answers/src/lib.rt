@@ -1,16 +1,18 @@
 // The bytes of each line that is printed. Each function stores its bytes from a place of the lent buffer on, and answers the
-// place after them.
+// place after them. Buffer and place go side by side: of bytes that a struct holds as `&mut` nothing is known once it is gone.
 #![tactic(auto)]
 
 ghost use Rattle.std.specs.Prelude.{◌≡◌, ◌+◌, ◌≤◌, ◌<◌, ◌++◌, length};
 ghost use Rattle.answers.specs.Text.{text};
 ghost use Rattle.answers.specs.Answers.{decimal, dotted, answer_of, room, Printed};
-ghost use Rattle.answers.specs.Writing.{three, Written};
+ghost use Rattle.answers.specs.Writing.{Written};
 
-const ROOM: usize = 64;
+// No answer is longer.
+pub const ROOM: usize = 64;
 
 // What is printed of an answer, and the last line.
-#[derive(Clone, Copy)]
+// No `Display`: by std's contracts a `write!` may fail at any writer, and then nothing is known of the bytes that `Printed` promises.
+#[derive(Clone, Copy, Debug, PartialEq, Eq)]
 pub enum Said {
     // entries removed, and entries changed
     Done(u32, u32),
@@ -20,53 +22,34 @@ pub enum Said {
     Miss(u32, u32, u32, u32),
     // the nodes examined
     Drop(u32),
-    // the refusal's number
+    // the refusal's number, which is what is printed of any call's refusal (`answer_of`)
     Refused(u32),
     Bad,
     // hits, misses and drops
     Tallies(u32, u32, u32),
 }
 
-// ---- numbers, three digits at a time
+// ---- words, and numbers after them; inlined, so that a word of a known length is stored without a call
 
-// The last three digits of a number, zeros among them.
-fn put_three(out: &mut [u8], at: usize, n: u32) -> usize
-    requires { (at + 3 ≤ length out.old) × (n < 1000) }
-    ensures { Written out.old out.new at (three n) result }
+// The bytes of a word.
+#[inline(always)]
+fn put_word(out: &mut [u8], at: usize, word: &[u8]) -> usize
+    requires { at + length word.now ≤ length out.old }
+    ensures { Written out.old out.new at word.now result }
 {
-    out[at] = b'0' + (n / 100) as u8;
-    out[at + 1] = b'0' + (n / 10 % 10) as u8;
-    out[at + 2] = b'0' + (n % 10) as u8;
-    at + 3
+    let end = at + word.len();
+    out[at..end].copy_from_slice(word);
+    end
 }
 
-// A number of at most three digits, with no leading zeros.
-fn put_small(out: &mut [u8], at: usize, n: u32) -> usize
-    requires { (at + length (decimal n) ≤ length out.old) × (n < 1000) }
-    ensures { Written out.old out.new at (decimal n) result }
+// How many digits a number has.
+fn digits(n: u32) -> usize
+    ensures { result ≡ length (decimal n) }
 {
-    if n < 10 {
-        out[at] = b'0' + n as u8;
-        return at + 1;
+    match n.checked_ilog10() {
+        Some(log) => log as usize + 1,
+        None => 1,
     }
-    if n < 100 {
-        out[at] = b'0' + (n / 10) as u8;
-        out[at + 1] = b'0' + (n % 10) as u8;
-        return at + 2;
-    }
-    put_three(out, at, n)
-}
-
-// A number of at most six digits.
-fn put_middle(out: &mut [u8], at: usize, n: u32) -> usize
-    requires { (at + length (decimal n) ≤ length out.old) × (n < 1000000) }
-    ensures { Written out.old out.new at (decimal n) result }
-{
-    if n < 1_000 {
-        return put_small(out, at, n);
-    }
-    let i = put_small(out, at, n / 1_000);
-    put_three(out, i, n % 1_000)
 }
 
 // A number in decimal, with no leading zeros.
@@ -74,30 +57,13 @@ fn put_number(out: &mut [u8], at: usize, n: u32) -> usize
     requires { at + length (decimal n) ≤ length out.old }
     ensures { Written out.old out.new at (decimal n) result }
 {
-    if n < 1_000_000 {
-        return put_middle(out, at, n);
-    }
-    let i = put_middle(out, at, n / 1_000_000);
-    let j = put_three(out, i, n / 1_000 % 1_000);
-    put_three(out, j, n % 1_000)
-}
-
-// ---- words, and numbers after them
-
-// The bytes of a word.
-fn put_word(out: &mut [u8], at: usize, word: &[u8]) -> usize
-    requires { at + length word.now ≤ length out.old }
-    ensures { Written out.old out.new at word.now result }
-{
-    let mut i = 0;
-    while i < word.len() {
-        out[at + i] = word[i];
-        i += 1;
-    }
-    at + i
+    let end = at + digits(n);
+    itoa::write_digits(n as u64, out, end);
+    end
 }
 
 // A word and a number.
+#[inline(always)]
 fn put(out: &mut [u8], at: usize, word: &[u8], n: u32) -> usize
     requires { at + length word.now + 10 ≤ length out.old }
     ensures written { Written out.old out.new at (word.now ++ decimal n) result }
@@ -108,25 +74,28 @@ fn put(out: &mut [u8], at: usize, word: &[u8], n: u32) -> usize
 }
 
 // A mark and an octet.
-fn put_octet(out: &mut [u8], at: usize, mark: &[u8], octet: u32) -> usize
-    requires { (at + 11 ≤ length out.old) × (length mark.now ≡ 1) × (octet ≤ 255) }
+#[inline(always)]
+fn put_octet(out: &mut [u8], at: usize, mark: &[u8], octet: u8) -> usize
+    requires room { at + 4 ≤ length out.old }
+    requires one_byte { length mark.now ≡ 1 }
     ensures written { Written out.old out.new at (mark.now ++ decimal octet) result }
     ensures upper_bound { result ≤ at + 4 }
 {
     let i = put_word(out, at, mark);
-    put_small(out, i, octet)
+    put_number(out, i, octet as u32)
 }
 
 // A space and an address.
 fn put_address(out: &mut [u8], at: usize, address: u32) -> usize
-    requires { at + 23 ≤ length out.old }
+    requires { at + 16 ≤ length out.old }
     ensures written { Written out.old out.new at (text " " ++ dotted address) result }
     ensures upper_bound { result ≤ at + 16 }
 {
-    let i = put_octet(out, at, b" ", address / 16_777_216);
-    let j = put_octet(out, i, b".", address / 65_536 % 256);
-    let k = put_octet(out, j, b".", address / 256 % 256);
-    put_octet(out, k, b".", address % 256)
+    let [a, b, c, d] = address.to_be_bytes();
+    let i = put_octet(out, at, b" ", a);
+    let j = put_octet(out, i, b".", b);
+    let k = put_octet(out, j, b".", c);
+    put_octet(out, k, b".", d)
 }
 
 // ---- the lines
@@ -165,8 +134,10 @@ fn put_tallies(out: &mut [u8], at: usize, hits: u32, misses: u32, drops: u32) ->
 }
 
 // A line of a word and one number.
+#[inline(always)]
 fn put_one(out: &mut [u8], at: usize, word: &[u8], n: u32) -> usize
-    requires { (at + room ≤ length out.old) × (length word.now ≤ 8) }
+    requires room { at + room ≤ length out.old }
+    requires short { length word.now ≤ 8 }
     ensures { Written out.old out.new at (word.now ++ decimal n ++ text "\n") result }
 {
     let i = put(out, at, word, n);
@@ -178,11 +149,7 @@ fn put_one(out: &mut [u8], at: usize, word: &[u8], n: u32) -> usize
 pub fn write_line(out: &mut [u8], at: usize, said: Said) -> usize
     ensures { Printed said at out.old out.new result }
 {
-    let length = out.len();
-    if length < ROOM {
-        return at;
-    }
-    if length - ROOM < at {
+    if out.len() < ROOM || out.len() - ROOM < at {
         return at;
     }
     match said {

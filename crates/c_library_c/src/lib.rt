@@ -1,16 +1,16 @@
 // What a router links: the functions of c_library under their own names, with the same clauses.
 //
-// A slice is two arguments of C, a pointer and a count. There is no logic here: each function makes the proved call.
+// A slice is two arguments of C, a pointer and a count. There is no logic here: each function makes the proved call. The functions
+// stand twice because a crate is built as a library or for C, and `linked` stands on the library.
 #![tactic(auto)]
 
-ghost use Rattle.std.specs.Prelude.{◌≡◌, cond, [], ◌∷◌};
+ghost use Rattle.std.specs.Prelude.{◌≡◌};
 ghost use Rattle.sizes.specs.Sizes.{entries_for, sizing_number, sizing_entries};
 ghost use Rattle.tallies.specs.Counting.{difference as between, held_sum};
 ghost use Rattle.table.specs.Tables.{TableSetUp};
 ghost use Rattle.cache.specs.Calls.{CacheSetUp};
 ghost use Rattle.updates.specs.declared.Action.TheVariants.{Announce, Withdraw};
-ghost use Rattle.c_library.specs.Words.{look_words, look_number};
-ghost use Rattle.c_library.specs.Promises.{SetUpTold, TableSound, PairSound, LookTold, UpdateTold, LentLookup, LentUpdate};
+ghost use Rattle.c_library.specs.Promises.{SetUpTold, TableSound, PairSound, LentLookup, LentUpdate};
 
 use tallies::Tallies;
 

@@ -2,11 +2,9 @@
 use mathlib.Core.Path.{◌≡◌, refl}
 use mathlib.Core.Bool.{Bool, true, false, not}
 use mathlib.Core.List.{List}
-use Prim.Native.Nat.{ℕ, suc, ◌+◌, ◌/◌, ◌%◌, ◌≤◌, ◌<◌, min}
+use Prim.Native.Nat.{ℕ, ◌+◌, ◌/◌, ◌%◌, ◌≤◌, ◌<◌, min}
 use native.Mathlib.Decide.{ℕ_discrete}
 use native.Mathlib.Omega.{arith}
-use mir.Syntax.{w32}
-use mir.Val as val
 use lib.ListN.{length}
 use borrow.Author.Tests.{not-true, not-false}
 use Rattle.prefix.specs.Bits.{bits}
@@ -19,11 +17,6 @@ use Rattle.lru_cache.specs.Checks.{length_at, Leads, BranchOk, RootOk, Checked}
 use Rattle.lru_cache.proofs.Checking.{checked_sound, sound_checked}
 use Rattle.sizes.specs.BothStores.{slot_word, word}
 use Rattle.slots.specs.Layout.{entries_held, cache_of, Shaped}
-use Rattle.slots.specs.Headers.{HeaderRead}
-use Rattle.slots.specs.declared.Header.{Header}
-use Rattle.slots.specs.declared.Shape.{Shape}
-use Rattle.slots.specs.declared.Shape.TheVariants.{Fits, Broken}
-use Rattle.slots.proofs.HeaderLaws.{header_shaped, header_entries}
 use Rattle.slots.proofs.ReadLaws.{read_branch}
 use Rattle.entries.specs.Caches.{SoundEntries}
 use Rattle.cache.specs.Calls.{EntriesChecked}
@@ -81,66 +74,43 @@ module _ (w : List ℕ) where
 
 -- the slots below i are fine
 pub record Passed (w : List ℕ) (i : ℕ) : Type 0 where
-  pub from : 0 < i
-  pub upto : i ≤ suc (entries_held w)
   pub fine : (k : ℕ) → 0 < k → k < i → SlotFine w k
-
-pub passed_none : (w : List ℕ) → Passed w 1
-passed_none w = record { from = omega arith; upto = omega arith; fine = λ k a b. absurd (omega arith) }
 
 refused : (w : List ℕ) → ¬ (SoundEntries w) → EntriesChecked w false
 refused w n = (λ e. absurd (clash e refl), λ S. absurd (n S))
 
-module _ (w : List ℕ) (shape : Shape) (read : HeaderRead w shape) where
-  pub check_broken : shape ≡ Broken → EntriesChecked w false
-  check_broken e = refused w (λ S. (rw e at read) S.shaped)
+module _ (w : List ℕ) (n : ℕ) (are : n ≡ entries_held w) where
+  pub check_root : (r : Bool) → Decides (RootOk n (cache_of w)) r → not r ≡ true → EntriesChecked w false
+  check_root r d e = refused w (λ S. d.no (not-true r e) (rw are (sound_checked S.slots).root))
 
-  module _ (h : Header) (is : shape ≡ Fits h) where
-    shaped : Shaped w
-    shaped = header_shaped w shape read h is
+  module _ (i : ℕ) (r : Bool) (d : Decides (SlotFine w i) r) where
+    pub check_slot : 0 < i → i ≤ n → not r ≡ true → EntriesChecked w false
+    check_slot a b e = refused w (λ S. d.no (not-true r e) (slot_fine w S i (a, omega (arith, are))))
 
-    held : h.entries ≡ entries_held w
-    held = header_entries w shape read h is
+    pub passed_on : Passed w i → not r ≡ false → Passed w (i + 1)
+    passed_on P e = record { fine = λ k a b. elim (ℕ_discrete k i) [ yes z ↦ rw z (d.yes (not-false r e)) | no z ↦ P.fine k a (omega arith) ] }
 
-    pub check_root : (r : Bool) → Decides (RootOk h.entries (cache_of w)) r → not r ≡ true → EntriesChecked w false
-    check_root r d e = refused w (λ S. d.no (not-true r e) (rw held (sound_checked S.slots).root))
+  module _ (s : Shaped w) (i : ℕ) (past : n < i) (P : Passed w i) (r : Bool) (root : Decides (RootOk n (cache_of w)) r) (e : not r ≡ false) (t : Bool) (ring : Decides (Ring n (cache_of w)) t) where
+    fine : (k : ℕ) → Slot (entries_held w) k → SlotFine w k
+    fine k l = P.fine k l.0 (omega (arith, are))
 
-    module _ (i : ℕ) (P : Passed w i) where
-      module _ (l : i ≤ h.entries) (r : Bool) (d : Decides (SlotFine w i) r) where
-        pub check_slot : not r ≡ true → EntriesChecked w false
-        check_slot e = refused w (λ S. d.no (not-true r e) (slot_fine w S i (P.from, omega (arith, held))))
+    branch_ok : (k : ℕ) → Slot (entries_held w) k → 1 < k → BranchOk (entries_held w) (cache_of w) k
+    branch_ok k l u = let b = (fine k l).branch u in record { short = b.short; hangs = b.hangs; leads = λ d. leads w k d u b.short (side b d) }
+      where
+        side : BranchFine w k → (d : Bool) → CellFine w k d
+        side b false = b.left
+        side b true = b.right
 
-        pub next_fits : val.Fits w32 (i + 1)
-        next_fits = let s = shaped in omega (arith, held, s.legal, s.entries_fit)
-
-        pub passed_on : not r ≡ false → Passed w (i + 1)
-        passed_on e = record {
-          from = omega arith;
-          upto = omega (arith, held);
-          fine = λ k a b. elim (ℕ_discrete k i) [ yes z ↦ rw z (d.yes (not-false r e)) | no z ↦ P.fine k a (omega arith) ];
-        }
-
-      module _ (past : h.entries < i) (r : Bool) (root : Decides (RootOk h.entries (cache_of w)) r) (e : not r ≡ false) (s : Bool) (ring : Decides (Ring h.entries (cache_of w)) s) where
-        fine : (k : ℕ) → Slot (entries_held w) k → SlotFine w k
-        fine k l = P.fine k l.0 (omega (arith, held, P.upto))
-
-        branch_ok : (k : ℕ) → Slot (entries_held w) k → 1 < k → BranchOk (entries_held w) (cache_of w) k
-        branch_ok k l u = let b = (fine k l).branch u in record { short = b.short; hangs = b.hangs; leads = λ d. leads w k d u b.short (side b d) }
-          where
-            side : BranchFine w k → (d : Bool) → CellFine w k d
-            side b false = b.left
-            side b true = b.right
-
-        pub check_all : EntriesChecked w s
-        check_all = (
-          λ z. record {
-            shaped = shaped;
-            plain = record { short = λ k a b. (fine k (a, b)).plain };
-            slots = checked_sound (record {
-              root = rw (← held) (root.yes (not-false r e));
-              slots = λ k l. record { entry = (fine k l).hangs; branch = branch_ok k l };
-              ring = rw (← held) (ring.yes z);
-            });
-          },
-          λ S. is_true (λ z. ring.no z (rw held S.slots.ring)),
-        )
+    pub check_all : EntriesChecked w t
+    check_all = (
+      λ z. record {
+        shaped = s;
+        plain = record { short = λ k a b. (fine k (a, b)).plain };
+        slots = checked_sound (record {
+          root = rw (← are) (root.yes (not-false r e));
+          slots = λ k l. record { entry = (fine k l).hangs; branch = branch_ok k l };
+          ring = rw (← are) (ring.yes z);
+        });
+      },
+      λ S. is_true (λ z. ring.no z (rw are S.slots.ring)),
+    )

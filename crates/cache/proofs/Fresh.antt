@@ -5,7 +5,8 @@ use Prim.Native.Nat.{ℕ, ◌≤◌}
 use native.Mathlib.Omega.{arith}
 use lib.ListN.{length}
 use Rattle.sizes.specs.Sizes.{LegalLimit, cache_need}
-use Rattle.sizes.specs.declared.Setup.{Setup}
+use Rattle.std.specs.Prelude.{Result}
+use Rattle.sizes.specs.declared.SetupError.{SetupError}
 use Rattle.sizes.specs.BothStores.{Room, SetUp, Fresh}
 use Rattle.sizes.proofs.SetUpLaws.{set_up_makes}
 use Rattle.slots.specs.Layout.{entries_held}
@@ -29,5 +30,5 @@ fresh w limit legal enough =
       past_kept = emptied_past w limit room limit;
     }
 
-pub cache_set_up : (w w' : List ℕ) (limit : ℕ) (r : Setup) → SetUp cache_need Emptied w w' limit r → CacheSetUp w w' limit r
+pub cache_set_up : (w w' : List ℕ) (limit : ℕ) (r : Result (Unit {0}) SetupError) → SetUp cache_need Emptied w w' limit r → CacheSetUp w w' limit r
 cache_set_up w w' limit r = set_up_makes cache_need Emptied (Fresh cache_need EmptyCache) w w' limit r (λ legal enough e. rw e (fresh w limit legal enough))

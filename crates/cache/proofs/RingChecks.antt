@@ -2,7 +2,7 @@
 use mathlib.Core.Path.{◌≡◌, refl, sym, ap, ◌∙◌}
 use mathlib.Core.Bool.{false}
 use mathlib.Core.List.{List}
-use mathlib.Core.Logic.{◌⊎◌, inl, inr, ⊎_elim}
+use mathlib.Core.Logic.{◌⊎◌, inl, inr}
 use Prim.Native.Nat.{ℕ, suc, ◌+◌, ◌≤◌, ◌<◌}
 use native.Mathlib.Numerals.{add-one}
 use native.Mathlib.Omega.{arith}
@@ -24,16 +24,10 @@ pub record Round (n : ℕ) (c : Cache) (k at : ℕ) : Type 0 where
   pub is_at : at ≡ along c 0 k
   pub in_use : at ≤ n
   pub first : (k ≡ 0) ⊎ (¬ (at ≡ 0))
-  pub upto : k ≤ suc n
 
 pub round_start : (n : ℕ) (w : List ℕ) → Round n (cache_of w) 0 0
 unfolding along
-round_start n w = record { walked = walked_start; is_at = refl; in_use = omega arith; first = inl refl; upto = omega arith }
-
-pub round_open : (n : ℕ) (w : List ℕ) (k at : ℕ) → Round n (cache_of w) k at → n < k → Decides (Ring n (cache_of w)) false
-round_open n w k at R l =
-    let e : k ≡ suc n = omega (arith, R.upto) in
-    refuse (λ g. ⊎_elim (λ z. omega arith) (λ z. z (R.is_at ∙ ap (along (cache_of w) 0) e ∙ g.back)) R.first)
+round_start n w = record { walked = walked_start; is_at = refl; in_use = omega arith; first = inl refl }
 
 module _ (n : ℕ) (w : List ℕ) (k at : ℕ) (R : Round n (cache_of w) k at) (low : k ≤ n) (next : ℕ) (is : next ≡ word w (slot_word at 3)) where
   next_is : next ≡ (cache_of w).next at
@@ -64,4 +58,8 @@ module _ (n : ℕ) (w : List ℕ) (k at : ℕ) (R : Round n (cache_of w) k at) (
       }
 
       pub round_on : ¬ (next ≡ 0) → Round n (cache_of w) (k + 1) next
-      round_on z = rw add-one (record { walked = walked; is_at = next_along; in_use = in_use; first = inr z; upto = omega arith })
+      round_on z = rw add-one (record { walked = walked; is_at = next_along; in_use = in_use; first = inr z })
+
+      -- all slots but slot 0 are behind it
+      pub round_open : ¬ (next ≡ 0) → n ≤ k → Decides (Ring n (cache_of w)) false
+      round_open z l = refuse (λ g. let e : k ≡ n = omega arith in z (next_along ∙ ap (λ j. along (cache_of w) 0 (suc j)) e ∙ g.back))

@@ -3,168 +3,148 @@
 // their words, insertion and removal the ways in and out.
 #![tactic(auto)]
 
+ghost use Rattle.std.specs.Prelude.{◌≡◌};
 ghost use Rattle.prefix.specs.Addresses.{ipv4_bits};
 ghost use Rattle.model.specs.Demands.{Hop};
 ghost use Rattle.cache.specs.Calls.{CacheSetUp, Finds, OldestIs, Placed, Touched, Inserted, Removed, HopGiven};
 ghost use Rattle.cache.specs.Checks.{Decides};
+ghost use Rattle.cache.specs.declared.FindError.{FindError};
 
-use entries::find::Nearest;
+use entries::entry::Entry;
+use entries::find::Absent;
 use prefix::Address;
-use sizes::Setup;
-use slots::Shape;
+use prefix::ipv4::Prefix;
+use sizes::SetupError;
+use sizes::refusal::Unsound;
+use slots::view::Slots;
 
 pub mod check;
 
-// What is found for an address: the slot of the entry that contains it; or, where none does, one more than the most bits
-// that any entry has in common with it, 0 where there is none; or a header that does not fit its store.
-#[derive(Clone, Copy)]
-pub enum Sought {
-    Entry(u32),
+// No entry is found for an address: none contains it, and then one more than the most bits that any has in common with it, 0
+// where there is none; or the header does not fit its store.
+#[derive(Clone, Copy, Debug, PartialEq, Eq)]
+pub enum FindError {
     Nothing(u32),
     Unsound,
 }
 
-// The slot of the least recently used entry; or that there is no entry; or a store that is not sound.
-#[derive(Clone, Copy)]
-pub enum Last {
-    Used(u32),
-    Empty,
-    Broken,
+impl From<Unsound> for FindError {
+    ghost from_gives = { λ _ e. e ≡ FindError.Unsound };
+
+    fn from(_unsound: Unsound) -> FindError {
+        FindError::Unsound
+    }
 }
 
-// What became of a change. A refusal leaves every word.
-#[derive(Clone, Copy)]
-pub enum Change {
-    Made,
-    Refused,
+impl From<Absent> for FindError {
+    ghost from_gives = { λ absent e. e ≡ FindError.Nothing absent.past };
+
+    fn from(absent: Absent) -> FindError {
+        FindError::Nothing(absent.past)
+    }
+}
+
+// A change that may not be made. Every word stays.
+#[derive(Clone, Copy, Debug, PartialEq, Eq)]
+pub struct Refused;
+
+impl From<Unsound> for Refused {
+    fn from(_unsound: Unsound) -> Refused {
+        Refused
+    }
 }
 
 // An empty cache, where the store is large enough for the limit.
-pub fn set_up(store: &mut [u32], limit: u32) -> Setup
+pub fn set_up(store: &mut [u32], limit: u32) -> Result<(), SetupError>
     ensures { CacheSetUp store.old store.new limit result }
 {
     slots::set_up_cache(store, limit)
 }
 
-// The entry that contains an address.
-pub fn find(store: &[u32], address: Address) -> Sought
+// The slot of the entry that contains an address.
+pub fn find(store: &[u32], address: Address) -> Result<u32, FindError>
     ensures { Finds store.now (ipv4_bits address) result }
 {
-    let Shape::Fits(h) = slots::read_header(store) else {
-        return Sought::Unsound;
-    };
-    match entries::find::find_entry(store, h.entries, address) {
-        Nearest::Hit(slot) => Sought::Entry(slot),
-        Nearest::Miss(past) => Sought::Nothing(past),
-    }
+    let slot = entries::find::find_entry(Slots::open(store)?, address)?;
+    Ok(slot)
 }
 
-// The least recently used entry.
-pub fn oldest(store: &[u32]) -> Last
+// The slot of the least recently used entry, if there is an entry.
+pub fn oldest(store: &[u32]) -> Result<Option<u32>, Unsound>
     ensures { OldestIs store.now result }
 {
-    let Shape::Fits(h) = slots::read_header(store) else {
-        return Last::Broken;
+    let slots = Slots::open(store)?;
+    if slots.count == 0 {
+        return Ok(None);
+    }
+    let Some(last) = entries::order::oldest(slots) else {
+        return Err(Unsound);
     };
-    if h.entries == 0 {
-        return Last::Empty;
-    }
-    let last = entries::order::oldest(store);
-    if last == 0 {
-        return Last::Broken;
-    }
-    if h.entries < last {
-        return Last::Broken;
-    }
-    Last::Used(last)
+    Ok(Some(last))
 }
 
 // ---- changes
 
-// A slot with an entry, and how many there are.
-#[derive(Clone, Copy)]
-enum Place {
-    Among(u32),
-    Nowhere,
-}
-
-fn place_of(store: &[u32], slot: u32) -> Place
+// How many entries there are, where the slot is of one.
+fn place_of(store: &[u32], slot: u32) -> Result<u32, Refused>
     ensures { Placed store.now slot result }
 {
-    let Shape::Fits(h) = slots::read_header(store) else {
-        return Place::Nowhere;
-    };
-    if slot == 0 {
-        return Place::Nowhere;
+    let h = slots::read_header(store)?;
+    if slot == 0 || h.entries < slot {
+        return Err(Refused);
     }
-    if h.entries < slot {
-        return Place::Nowhere;
-    }
-    Place::Among(h.entries)
+    Ok(h.entries)
 }
 
 // The entry of the slot becomes the most recently used.
-pub fn touch(store: &mut [u32], slot: u32) -> Change
+pub fn touch(store: &mut [u32], slot: u32) -> Result<(), Refused>
     ensures { Touched store.old store.new slot result }
 {
-    let Place::Among(held) = place_of(store, slot) else {
-        return Change::Refused;
-    };
+    let held = place_of(store, slot)?;
     entries::order::to_front(store, held, slot);
-    Change::Made
+    Ok(())
 }
 
 // The prefix of the first bits of an address, which overlaps no entry, comes in as the most recently used. It is refused where
 // there is no room, and for a length above 32 or a hop that is not 1 to 65,535.
-pub fn insert(store: &mut [u32], address: Address, length: u32, hop: u32) -> Change
+pub fn insert(store: &mut [u32], address: Address, length: u32, hop: u32) -> Result<(), Refused>
     ensures { Inserted store.old store.new (ipv4_bits address) length hop result }
 {
-    let Shape::Fits(h) = slots::read_header(store) else {
-        return Change::Refused;
+    let h = slots::read_header(store)?;
+    if h.limit <= h.entries || 32 < length || !is_hop(hop) {
+        return Err(Refused);
+    }
+    let new = Entry {
+        prefix: Prefix { address, length },
+        hop,
     };
-    if h.limit <= h.entries {
-        return Change::Refused;
-    }
-    if 32 < length {
-        return Change::Refused;
-    }
-    if !is_hop(hop) {
-        return Change::Refused;
-    }
-    insertion::insert_entry(store, h.entries, address, length, hop);
-    Change::Made
+    insertion::insert_entry(store, h.entries, new);
+    Ok(())
 }
 
 // The entry of the slot leaves.
-pub fn remove(store: &mut [u32], slot: u32) -> Change
+pub fn remove(store: &mut [u32], slot: u32) -> Result<(), Refused>
     ensures { Removed store.old store.new slot result }
 {
-    let Place::Among(held) = place_of(store, slot) else {
-        return Change::Refused;
-    };
+    let held = place_of(store, slot)?;
     removal::remove_entry(store, held, slot);
-    Change::Made
+    Ok(())
 }
 
 // The entry of the slot takes another hop, and nothing else changes.
-pub fn give_hop(store: &mut [u32], slot: u32, hop: u32) -> Change
+pub fn give_hop(store: &mut [u32], slot: u32, hop: u32) -> Result<(), Refused>
     ensures { HopGiven store.old store.new slot hop result }
 {
-    let Place::Among(_) = place_of(store, slot) else {
-        return Change::Refused;
-    };
+    place_of(store, slot)?;
     if !is_hop(hop) {
-        return Change::Refused;
+        return Err(Refused);
     }
     entries::give_hop(store, slot, hop);
-    Change::Made
+    Ok(())
 }
 
 fn is_hop(hop: u32) -> bool
     ensures { Decides (Hop hop) result }
 {
-    if hop == 0 {
-        return false;
-    }
-    hop <= sizes::HIGHEST_HOP
+    hop != 0 && hop <= sizes::HIGHEST_HOP
 }

@@ -3,9 +3,11 @@ use mathlib.Core.Path.{◌≡◌, refl, sym, ap, ◌∙◌, subst}
 use mathlib.Core.Bool.{false}
 use mathlib.Core.List.Memᴰ
 use mathlib.Core.List.{List, map}
+use mathlib.Core.Logic.{◌⊎◌, inl, inr}
 use Prim.Native.Nat.{ℕ, suc, ◌+◌, ◌/◌, ◌%◌, ◌≤◌, ◌<◌}
 use native.Mathlib.Numerals.{add-one}
 use native.Mathlib.Omega.{arith}
+use Rattle.std.specs.Prelude.{Result, Ok, Err}
 use Rattle.prefix.specs.Bits.{Bits}
 use Rattle.prefix.specs.Prefix.{contains, common, ◌⊑◌}
 use Rattle.prefix.specs.Addresses.{ipv4_bits}
@@ -23,11 +25,14 @@ use Rattle.sizes.specs.BothStores.{slot_word, word}
 use Rattle.slots.specs.Layout.{entries_held, cache_of}
 use Rattle.entries.specs.Caches.{entries, SoundEntries, NearestTo}
 use Rattle.entries.specs.Walks.{CommonWith, Walked}
-use Rattle.entries.specs.declared.find.Nearest.TheVariants.{Hit, Miss}
+use Rattle.entries.specs.declared.find.Absent.{Absent}
 use Rattle.entries.proofs.EntryLaws.{none_held, all_short, entry_size}
 
+abbrev none_near : Result ℕ Absent
+none_near = Err (record { past = 0 })
+
 module _ (w : List ℕ) (x : Address) (held : ℕ) (are_held : held ≡ entries_held w) where
-  pub miss_empty : held ≡ 0 → NearestTo w (ipv4_bits x) (Miss 0)
+  pub miss_empty : held ≡ 0 → NearestTo w (ipv4_bits x) none_near
   unfolding largest
   miss_empty z = (
     omega arith,
@@ -40,17 +45,15 @@ module _ (w : List ℕ) (x : Address) (held : ℕ) (are_held : held ≡ entries_
     nearest S = rw (walked.found S (omega arith)) (find_nearest S.slots (ipv4_bits x) (all_short w x) (omega arith))
 
     -- no sound store
-    unsound : (SoundEntries w → ⊥) → NearestTo w (ipv4_bits x) (Miss 0)
+    unsound : (SoundEntries w → ⊥) → NearestTo w (ipv4_bits x) none_near
     unsound f = (omega arith, λ S. absurd (f S))
 
-    pub no_slot : r / 2 ≡ 0 → NearestTo w (ipv4_bits x) (Miss 0)
-    no_slot z = unsound (λ S. omega (arith, (nearest S).slot))
-
-    pub no_such_slot : held < r / 2 → NearestTo w (ipv4_bits x) (Miss 0)
-    no_such_slot h = unsound (λ S. omega (arith, (nearest S).slot))
+    pub no_slot : (r / 2 ≡ 0) ⊎ ((r / 2 ≡ 0 → ⊥) × (held < r / 2)) → NearestTo w (ipv4_bits x) none_near
+    no_slot (inl z) = unsound (λ S. omega (arith, (nearest S).slot))
+    no_slot (inr h) = unsound (λ S. omega (arith, h, (nearest S).slot))
 
     module _ (some-slot : ¬ (r / 2 ≡ 0)) (in_use : r / 2 ≤ held) (n : ℕ) (en : n ≡ word w (slot_word (r / 2) 1) % 64) where
-      pub too_long : 32 < n → NearestTo w (ipv4_bits x) (Miss 0)
+      pub too_long : 32 < n → NearestTo w (ipv4_bits x) none_near
       too_long h = unsound (λ S. omega (arith, S.plain.short (r / 2) (omega arith) (omega arith)))
 
       module _ (short : n ≤ 32) (s : ℕ) (es : CommonWith w (r / 2) (ipv4_bits x) s) where
@@ -60,13 +63,13 @@ module _ (w : List ℕ) (x : Address) (held : ℕ) (are_held : held ≡ entries_
         s_is : s ≡ common (ipv4_bits x) E
         s_is = es.is_common (omega arith)
 
-        pub hit : n ≤ s → NearestTo w (ipv4_bits x) (Hit (r / 2))
+        pub hit : n ≤ s → NearestTo w (ipv4_bits x) (Ok (r / 2))
         hit h = (
           (omega arith, omega arith),
           λ S. ⊑_contains (common_⊑ (⊑_refl E) (omega (arith, entry_size w (r / 2) n en short, s_is, common_sym (ipv4_bits x) E))),
         )
 
-        pub miss : s < n → NearestTo w (ipv4_bits x) (Miss (s + 1))
+        pub miss : s < n → NearestTo w (ipv4_bits x) (Err (record { past = s + 1 }))
         unfolding entries
         miss h = (
           omega arith,

@@ -1,7 +1,9 @@
 -- The changes of the order of use, return by return. Assumes nothing.
-use mathlib.Core.Path.{◌≡◌, ap, ◌∙◌}
+use mathlib.Core.Path.{◌≡◌, refl, ap, ◌∙◌}
+use mathlib.Core.Logic.{◌⊎◌}
+use Rattle.std.specs.Prelude.{Some, None}
 use mathlib.Core.List.{List, ◌∷◌}
-use Prim.Native.Nat.{ℕ, suc, ◌-◌, ◌≤◌, ◌<◌}
+use Prim.Native.Nat.{ℕ, zero, suc, ◌-◌, ◌≤◌, ◌<◌}
 use native.Mathlib.Omega.{arith}
 use Rattle.lru_cache.specs.Slots.{Cache}
 use Rattle.lru_cache.specs.Changes.{unlink, push_front, to_front, move_links}
@@ -12,8 +14,8 @@ use Rattle.slots.specs.Layout.{entries_held, cache_of, Shaped}
 use Rattle.slots.specs.Stores.{put_prev, put_next}
 use Rattle.slots.proofs.ReadLaws.{read_prev, read_next}
 use Rattle.slots.proofs.KeptLaws.{kept_then}
-use Rattle.entries.specs.Caches.{Slot, entries, entry_in, others_in, SoundEntries, Kept, Holds, Oldest}
-use Rattle.entries.specs.Changed.{Slots, Changed, Linked, between, Low}
+use Rattle.entries.specs.Caches.{Slot, entries, entry_in, others_in, SoundEntries, Kept, Holds, Oldest, OldestOf}
+use Rattle.entries.specs.Changed.{InStore, Changed, Linked, between, Low}
 use Rattle.entries.proofs.Changing.{none_stored, next_stored, prev_stored, changed, skipped, slots_kept, holds_after}
 use Rattle.entries.proofs.Lows.{sound_low, low_unlink}
 
@@ -31,7 +33,7 @@ far_first {n} {p} {w} e h = skipped (λ f. omega (arith, f, e, read_next w 0))
 
 -- ---- the changes
 
-module _ {n : ℕ} {w w' : List ℕ} (has : Slots w n) where
+module _ {n : ℕ} {w w' : List ℕ} (has : InStore w n) where
   pub unlinked : {u : List ℕ} {p q : ℕ} (k : ℕ) → p ≡ word w (slot_word k 2) → q ≡ word w (slot_word k 3) → p ≤ n → q ≤ n
       → u ≡ put_next w p q → w' ≡ put_prev u q p → Changed n w w' (Linked n w k) (unlink (cache_of w) k)
   unlinked {u} {p} {q} k ep eq hp hq eu ew =
@@ -77,8 +79,19 @@ module _ {w u w' : List ℕ} {n : ℕ} (k : ℕ) (s : Shaped w) (e : n ≡ entri
 
 -- ---- the least recently used
 
-pub oldest_is : (w : List ℕ) (r : ℕ) → r ≡ word w (slot_word 0 2) → SoundEntries w → 0 < entries_held w → Oldest w r
+oldest_is : (w : List ℕ) (r : ℕ) → r ≡ word w (slot_word 0 2) → SoundEntries w → 0 < entries_held w → Oldest w r
 unfolding entries
 oldest_is w r e S h =
     let z : entries_held w ≡ suc (entries_held w - 1) = omega arith in
     rw (e, read_prev w 0) (record { slot = oldest_slot S.slots z; is_last = oldest_last S.slots z })
+
+module _ (w : List ℕ) (n : ℕ) (are-held : n ≡ entries_held w) (k : ℕ) (is_k : k ≡ word w (slot_word 0 2)) where
+  pub oldest_found : ¬ (k ≡ 0) → k ≤ n → OldestOf w (Some k)
+  oldest_found ne l = ((omega arith, omega (arith, are-held)), λ S. oldest_is w k is_k S (omega (arith, are-held)))
+
+  pub oldest_none : (k ≡ 0) ⊎ (¬ (k ≡ 0) × (n < k)) → OldestOf w None
+  oldest_none either S = go (entries_held w) refl
+    where
+      go : (m : ℕ) → entries_held w ≡ m → entries_held w ≡ 0
+      go zero e = e
+      go (suc m) e = absurd (omega (arith, (oldest_is w k is_k S (omega (arith, e))).slot, are-held))

@@ -1,5 +1,5 @@
 -- Which words are a cache store that is sound in itself, the entries that they hold, and what the calls on it promise. Assumes nothing.
-use Rattle.std.specs.Prelude.{◌≡◌, true, false, cond, List, [], ◌∷◌, ◌++◌, map, ℕ, suc, ◌<◌, ◌≤◌, drop, eqb}
+use Rattle.std.specs.Prelude.{◌≡◌, true, false, cond, List, [], ◌∷◌, ◌++◌, map, ℕ, suc, ◌<◌, ◌≤◌, drop, eqb, Result, Ok, Err, Option, Some, None}
 use Rattle.prefix.specs.Bits.{Bits}
 use Rattle.prefix.specs.Prefix.{contains, overlap, common}
 use Rattle.sizes.specs.Sizes.{cache_need}
@@ -10,8 +10,7 @@ use Rattle.lru_cache.specs.Sound as lru
 use Rattle.lru_cache.specs.Results.{others}
 use Rattle.sizes.specs.BothStores.{limit_of}
 use Rattle.slots.specs.Layout.{entries_held, cache_of, Shaped, Plain}
-use Rattle.entries.specs.declared.find.Nearest.{Nearest}
-use Rattle.entries.specs.declared.find.Nearest.TheVariants.{Hit, Miss}
+use Rattle.entries.specs.declared.find.Absent.{Absent}
 
 -- the entries of a store in their order of use, the most recently used first
 unfoldable pub entries : List ℕ → Cache
@@ -73,11 +72,16 @@ pub record Rehops (w w' : List ℕ) (k hop : ℕ) : Type 0 where
   pub there : (i : ℕ) → ¬ (i ≡ k) → entry_in w' i ≡ entry_in w i
 
 -- an entry that contains the address X, or one more than the largest Common of X with any entry, 0 where there is none
-abbrev pub NearestTo : List ℕ → Bits → Nearest → Type 0
-NearestTo w X (Hit k) = Slot w k × (SoundEntries w → contains (entry_in w k).prefix X ≡ true)
-NearestTo w X (Miss past) = (past ≤ 33) × (SoundEntries w → NoneCached (entries w) X × (past ≡ largest (map (λ E. suc (common X E.prefix)) (entries w))))
+abbrev pub NearestTo : List ℕ → Bits → Result ℕ Absent → Type 0
+NearestTo w X (Ok k) = Slot w k × (SoundEntries w → contains (entry_in w k).prefix X ≡ true)
+NearestTo w X (Err e) = (e.past ≤ 33) × (SoundEntries w → NoneCached (entries w) X × (e.past ≡ largest (map (λ E. suc (common X E.prefix)) (entries w))))
 
 -- the least recently used entry is the last
 pub record Oldest (w : List ℕ) (k : ℕ) : Type 0 where
   pub slot : Slot w k
   pub is_last : entries w ≡ others_in w k ++ (entry_in w k ∷ [])
+
+-- its slot; or that there is no entry
+abbrev pub OldestOf : List ℕ → Option ℕ → Type 0
+OldestOf w (Some k) = Slot w k × (SoundEntries w → Oldest w k)
+OldestOf w None = SoundEntries w → entries_held w ≡ 0

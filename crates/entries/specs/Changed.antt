@@ -9,8 +9,8 @@ use Rattle.slots.specs.Layout.{cache_of}
 use Rattle.slots.specs.Stores.{put_prev, put_next, Kept}
 
 -- the words of the slots 0 to n are in the store
-abbrev pub Slots : List ℕ → ℕ → Type 0
-Slots w n = Room w n × (n ≤ largest_limit)
+abbrev pub InStore : List ℕ → ℕ → Type 0
+InStore w n = Room w n × (n ≤ largest_limit)
 
 pub record Changed (n : ℕ) (w w' : List ℕ) (fits : Type 0) (c : Cache) : Type 0 where
   pub kept : Kept n w w'

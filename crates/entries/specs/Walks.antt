@@ -1,5 +1,5 @@
 -- The walk by an address over a store: where it stands, what one turn of it answers, and where it stops. Assumes nothing.
-use Rattle.std.specs.Prelude.{◌≡◌, Bool, true, false, List, ℕ, ◌%◌, ◌≤◌, ◌<◌, leb}
+use Rattle.std.specs.Prelude.{◌≡◌, Bool, true, false, List, Option, Some, None, ℕ, ◌%◌, ◌≤◌, ◌<◌, leb}
 use Rattle.prefix.specs.Bits.{Bits}
 use Rattle.prefix.specs.Prefix.{common}
 use Rattle.lru_cache.specs.Sound.{Live}
@@ -8,8 +8,6 @@ use Rattle.lru_cache.specs.Changes.{passes, towards, walk, find}
 use Rattle.sizes.specs.BothStores.{slot_word, word}
 use Rattle.slots.specs.Layout.{entries_held, cache_of}
 use Rattle.entries.specs.Caches.{SoundEntries}
-use Rattle.entries.specs.declared.find.Turn.{Turn}
-use Rattle.entries.specs.declared.find.Turn.TheVariants.{On, End}
 
 -- r bits of X agree with the entry of slot i, where its length is one of a sound store
 pub record CommonWith (w : List ℕ) (i : ℕ) (X : Bits) (r : ℕ) : Type 0 where
@@ -26,9 +24,9 @@ pub record Going (w : List ℕ) (X : Bits) (at left : ℕ) : Type 0 where
   pub rest : SoundEntries w → 0 < entries_held w → walk (cache_of w) X left at ≡ find (cache_of w) X
 
 -- from a node of a sound store: the walk goes on to a node, or it is over
-unfoldable pub Turned : List ℕ → Bits → ℕ → Turn → Type 0
-Turned w X at (On next) = SoundEntries w → Live (entries_held w) at → (passes (cache_of w) X at ≡ true) × (next ≡ (cache_of w).child (towards (cache_of w) X at))
-Turned w X at End = SoundEntries w → Live (entries_held w) at → passes (cache_of w) X at ≡ false
+unfoldable pub Turned : List ℕ → Bits → ℕ → Option ℕ → Type 0
+Turned w X at (Some next) = SoundEntries w → Live (entries_held w) at → (passes (cache_of w) X at ≡ true) × (next ≡ (cache_of w).child (towards (cache_of w) X at))
+Turned w X at None = SoundEntries w → Live (entries_held w) at → passes (cache_of w) X at ≡ false
 
 -- on a sound store with entries r is the node where the walk stops
 pub record Walked (w : List ℕ) (X : Bits) (r : ℕ) : Type 0 where

@@ -3,118 +3,93 @@ ghost use Rattle.std.specs.Prelude.{◌≡◌, false, ◌/◌, ◌≤◌, ◌<�
 ghost use Rattle.prefix.specs.Addresses.{address_bits, ipv4_bits};
 ghost use Rattle.sizes.specs.Sizes.{largest_limit};
 ghost use Rattle.lru_cache.specs.Slots.{cell_of};
-ghost use Rattle.sizes.specs.BothStores.{Room};
-ghost use Rattle.slots.specs.Layout.{entries_held, Shaped};
 ghost use Rattle.entries.specs.Caches.{NearestTo};
 ghost use Rattle.entries.specs.Walks.{CommonWith, BranchCovers, Turned, Walked};
 
-use prefix::Address;
+use prefix::{Address, HALF};
+use slots::view::Slots;
 
-// What the entries say of an address: the one in this slot contains it; or none does, and then one more than the most bits
-// that any has in common with it, 0 where there is none.
-#[derive(Clone, Copy)]
-pub enum Nearest {
-    Hit(u32),
-    Miss(u32),
-}
-
-#[derive(Clone, Copy)]
-enum Turn {
-    On(u32),
-    End,
+// No entry contains the address: one more than the most bits that any has in common with it, or 0 where there is none.
+#[derive(Clone, Copy, Debug, PartialEq, Eq)]
+pub struct Absent {
+    pub past: u32,
 }
 
 // The leading bits that x has in common with the entry of slot i.
-pub fn common_with(store: &[u32], i: u32, x: Address) -> u32
-    requires { Room store.now i }
-    ensures { CommonWith store.now i (ipv4_bits x) result }
+pub fn common_with(slots: Slots, i: u32, x: Address) -> u32
+    requires in_use { i ≤ slots.count }
+    ensures { CommonWith slots.entry.store.now i (ipv4_bits x) result }
 {
-    let n = slots::length_of(store, i);
-    prefix::common_bits_high(x, slots::address_of(store, i), n)
+    x.common_bits::<HALF>(slots.address_of(i), slots.length_of(i))
 }
 
 // Whether the branch of slot i, whose prefix is the first m bits of the slot's address, contains x.
-fn branch_covers(store: &[u32], i: u32, m: u32, x: Address) -> bool
-    requires { Room store.now i × (m < 64) }
-    ensures { BranchCovers store.now i m (ipv4_bits x) result }
+fn branch_covers(slots: Slots, i: u32, m: u32, x: Address) -> bool
+    requires in_use { i ≤ slots.count }
+    requires length_bound { m < 64 }
+    ensures { BranchCovers slots.entry.store.now i m (ipv4_bits x) result }
 {
-    prefix::covers_high(slots::address_of(store, i), m, x)
+    slots.address_of(i).covers::<HALF>(m, x)
 }
 
 // The cell of slot i's branch on the side of bit m of x.
 pub fn side_of(x: Address, i: u32, m: u32) -> u32
-    requires { (i ≤ largest_limit) × (m < 64) }
-    ensures { (result ≡ cell_of i (get_or (address_bits x) m false)) × (result / 2 ≡ i) }
+    requires slot_bound { i ≤ largest_limit }
+    requires length_bound { m < 64 }
+    ensures on_side { result ≡ cell_of i (get_or (address_bits x) m false) }
+    ensures of_slot { result / 2 ≡ i }
 {
-    2 * i + prefix::bit_at_high(x, m)
+    2 * i + x.bit_at::<HALF>(m)
 }
 
 // One node: below a branch that contains the address, the node on the address's side; else the walk ends here.
-fn step(store: &[u32], entries: u32, x: Address, at: u32) -> Turn
-    requires shaped { Shaped store.now }
-    requires entries_value { entries ≡ entries_held store.now }
-    ensures { Turned store.now (ipv4_bits x) at result }
+fn step(slots: Slots, x: Address, at: u32) -> Option<u32>
+    ensures { Turned slots.entry.store.now (ipv4_bits x) at result }
 {
     let i = at / 2;
-    if at % 2 == 0 {
-        return Turn::End;
+    if at % 2 == 0 || slots.count < i {
+        return None;
     }
-    if entries < i {
-        return Turn::End;
+    let m = slots.branch_length(i);
+    if !branch_covers(slots, i, m, x) {
+        return None;
     }
-    let m = slots::branch_length(store, i);
-    if !branch_covers(store, i, m, x) {
-        return Turn::End;
-    }
-    Turn::On(slots::child_of(store, side_of(x, i, m)))
+    Some(slots.child_of(side_of(x, i, m)))
 }
 
 // The node where the walk from the root by the bits of x stops: its slot's entry has the most leading bits in common with
 // x. On an unsound store, any number.
-pub fn walk(store: &[u32], entries: u32, x: Address) -> u32
-    requires shaped { Shaped store.now }
-    requires entries_value { entries ≡ entries_held store.now }
-    ensures { Walked store.now (ipv4_bits x) result }
+pub fn walk(slots: Slots, x: Address) -> u32
+    ensures { Walked slots.entry.store.now (ipv4_bits x) result }
 {
-    let mut at = slots::child_of(store, 0);
-    let mut left: u32 = 33;
-    while 0 < left {
-        match step(store, entries, x, at) {
-            Turn::On(next) => {
-                at = next;
-                left -= 1;
-            }
-            Turn::End => {
-                return at;
-            }
-        }
+    let mut at = slots.child_of(0);
+    for _ in 0..33u32 {
+        let Some(next) = step(slots, x, at) else {
+            return at;
+        };
+        at = next;
     }
     at
 }
 
-// What the entries say of x. A number that no sound store has is answered as if there were none.
-pub fn find_entry(store: &[u32], entries: u32, x: Address) -> Nearest
-    requires shaped { Shaped store.now }
-    requires entries_value { entries ≡ entries_held store.now }
-    ensures { NearestTo store.now (ipv4_bits x) result }
+// The slot of the entry that contains x. A number that no sound store has is answered as if there were no entry.
+pub fn find_entry(slots: Slots, x: Address) -> Result<u32, Absent>
+    ensures { NearestTo slots.entry.store.now (ipv4_bits x) result }
 {
-    if entries == 0 {
-        return Nearest::Miss(0);
+    if slots.count == 0 {
+        return Err(Absent { past: 0 });
     }
-    let slot = walk(store, entries, x) / 2;
-    if slot == 0 {
-        return Nearest::Miss(0);
+    let slot = walk(slots, x) / 2;
+    if slot == 0 || slots.count < slot {
+        return Err(Absent { past: 0 });
     }
-    if entries < slot {
-        return Nearest::Miss(0);
-    }
-    let n = slots::length_of(store, slot);
+    let n = slots.length_of(slot);
     if 32 < n {
-        return Nearest::Miss(0);
+        return Err(Absent { past: 0 });
     }
-    let shared = common_with(store, slot, x);
+    let shared = common_with(slots, slot, x);
     if shared < n {
-        return Nearest::Miss(shared + 1);
+        return Err(Absent { past: shared + 1 });
     }
-    Nearest::Hit(slot)
+    Ok(slot)
 }

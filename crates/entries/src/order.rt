@@ -1,14 +1,20 @@
 // The order of use: a ring through all slots in use, from slot 0 by next to the most recently used first, and back to
 // slot 0 from the least recently used. A number that no sound store has is left alone.
-ghost use Rattle.std.specs.Prelude.{◌≡◌, ◌∷◌, ◌<◌, ◌≤◌};
+//
+// The words and their count stand side by side where they are written: a struct that holds the words as `&mut` was tried, and
+// once it is gone nothing says what became of the words that were lent to it.
+ghost use Rattle.std.specs.Prelude.{◌≡◌, ◌∷◌, ◌≤◌};
 ghost use Rattle.lru_cache.specs.Changes.{unlink as unlinked, push_front, move_links};
 ghost use Rattle.slots.specs.Layout.{entries_held, cache_of, Shaped};
-ghost use Rattle.entries.specs.Caches.{Slot, entry_in, others_in, SoundEntries, Kept, Holds, Oldest};
-ghost use Rattle.entries.specs.Changed.{Slots, Changed, Linked, between};
+ghost use Rattle.entries.specs.Caches.{Slot, entry_in, others_in, SoundEntries, Kept, Holds, OldestOf};
+ghost use Rattle.entries.specs.Changed.{InStore, Changed, Linked, between};
+
+use slots::view::Slots;
 
 // Slot k leaves the ring: its neighbours are each other's.
 pub fn unlink(store: &mut [u32], entries: u32, k: u32)
-    requires { Slots store.old entries × (k ≤ entries) }
+    requires slots { InStore store.old entries }
+    requires in_use { k ≤ entries }
     ensures { Changed entries store.old store.new (Linked entries store.old k) (unlinked (cache_of store.old) k) }
 {
     let before = slots::prev_of(store, k);
@@ -25,7 +31,10 @@ pub fn unlink(store: &mut [u32], entries: u32, k: u32)
 
 // Slot k, which is not in the ring, comes between two neighbours.
 fn put_between(store: &mut [u32], entries: u32, before: u32, k: u32, after: u32)
-    requires { Slots store.old entries × (before ≤ entries) × (k ≤ entries) × (after ≤ entries) }
+    requires slots { InStore store.old entries }
+    requires before_in_use { before ≤ entries }
+    requires in_use { k ≤ entries }
+    requires after_in_use { after ≤ entries }
     ensures { store.new ≡ between store.old before k after }
 {
     slots::set_next(store, k, after);
@@ -36,7 +45,8 @@ fn put_between(store: &mut [u32], entries: u32, before: u32, k: u32, after: u32)
 
 // Slot k, which is not in the ring, comes first. There are so many slots.
 pub fn push_front(store: &mut [u32], entries: u32, k: u32)
-    requires { Slots store.old entries × (k ≤ entries) }
+    requires slots { InStore store.old entries }
+    requires in_use { k ≤ entries }
     ensures { Changed entries store.old store.new ((cache_of store.old).next 0 ≤ entries) (push_front (cache_of store.old) k) }
 {
     let first = slots::next_of(store, 0);
@@ -49,7 +59,7 @@ pub fn push_front(store: &mut [u32], entries: u32, k: u32)
 // The entry of slot k becomes the most recently used.
 pub fn to_front(store: &mut [u32], entries: u32, k: u32)
     requires shaped { Shaped store.old }
-    requires entries_value { entries ≡ entries_held store.old }
+    requires held { entries ≡ entries_held store.old }
     requires slot { Slot store.old k }
     ensures kept { Kept store.old store.new entries }
     ensures holds { SoundEntries store.old → Holds store.new (entry_in store.old k ∷ others_in store.old k) }
@@ -60,7 +70,9 @@ pub fn to_front(store: &mut [u32], entries: u32, k: u32)
 
 // Slot t, which is not in the ring, takes the place of slot s.
 pub fn take_place(store: &mut [u32], entries: u32, s: u32, t: u32)
-    requires { Slots store.old entries × (s ≤ entries) × (t ≤ entries) }
+    requires slots { InStore store.old entries }
+    requires in_use { s ≤ entries }
+    requires place_in_use { t ≤ entries }
     ensures { Changed entries store.old store.new (Linked entries store.old s) (move_links (cache_of store.old) s t) }
 {
     let before = slots::prev_of(store, s);
@@ -75,9 +87,12 @@ pub fn take_place(store: &mut [u32], entries: u32, s: u32, t: u32)
 }
 
 // The slot of the least recently used entry.
-pub fn oldest(store: &[u32]) -> u32
-    requires { Shaped store.now }
-    ensures { SoundEntries store.now → 0 < entries_held store.now → Oldest store.now result }
+pub fn oldest(slots: Slots) -> Option<u32>
+    ensures { OldestOf slots.entry.store.now result }
 {
-    slots::prev_of(store, 0)
+    let last = slots.prev_of(0);
+    if last == 0 || slots.count < last {
+        return None;
+    }
+    Some(last)
 }

@@ -6,18 +6,21 @@ use Prim.Native.Nat.{ℕ, ◌^◌, ◌≤◌, ◌<◌}
 use native.Mathlib.Omega.{arith}
 use lib.ListN.{length, take}
 use lib.Seq.{length-take-le}
+use Rattle.std.specs.Prelude.{Result, Ok, Err, IfOk}
 use Rattle.prefix.specs.Bits.{bits}
 use Rattle.prefix.specs.Prefix.{trimmed}
 use Rattle.prefix.proofs.BitLaws.{length_bits, trimmed_inj}
+use Rattle.sizes.specs.declared.refusal.Unsound.{Unsound}
 use Rattle.tallies.specs.declared.Tallies.{Tallies}
+use Rattle.model.specs.Model.{refused}
 use Rattle.pairs.specs.Pairs.{SoundPair}
-use Rattle.lookup.specs.Promises.{answer_of, ClearedIn, LookedUp}
+use Rattle.lookup.specs.Promises.{answer_of, said, tallies_in, ClearedIn, LookedUp}
 use Rattle.lookup.specs.declared.Answer.{Answer}
-use Rattle.lookup.specs.declared.Answer.TheVariants.{Hit, Miss, Drop, Unsound}
+use Rattle.lookup.specs.declared.Answer.TheVariants.{Hit, Miss, Drop}
 use Rattle.lookup.specs.declared.Looked.{Looked}
 use Rattle.fib.specs.Runs.{AddressFits}
 
-length_first : (n a : ℕ) → n ≤ 32 → length (take n (bits 32 a)) ≡ n
+pub length_first : (n a : ℕ) → n ≤ 32 → length (take n (bits 32 a)) ≡ n
 length_first n a h = length-take-le n (bits 32 a) (omega (arith, length_bits 32 a))
 
 -- a prefix whose bits past the length are cleared has one length and one address
@@ -30,36 +33,44 @@ prefix_words a b n m fa fb ca cb p =
 
 same_words : (a b : Answer) → AddressFits a → AddressFits b → ClearedIn a → ClearedIn b → answer_of a ≡ answer_of b → a ≡ b
 same_words (Hit h) (Hit k) fa fb ca cb e = cc
-same_words (Hit h) (Miss k b m j) fa fb ca cb e = absurd (let z : ◌≡◌ {A = ℕ} 0 1 = cc in omega arith)
-same_words (Hit h) (Drop k) fa fb ca cb e = absurd (let z : ◌≡◌ {A = ℕ} 0 1 = cc in omega arith)
-same_words (Hit h) Unsound fa fb ca cb e = absurd (let z : ◌≡◌ {A = ℕ} 0 1 = cc in omega arith)
-same_words (Miss h a n i) (Hit k) fa fb ca cb e = absurd (let z : ◌≡◌ {A = ℕ} 0 1 = cc in omega arith)
+same_words (Hit h) (Miss k b m j) fa fb ca cb e = cc
+same_words (Hit h) (Drop k) fa fb ca cb e = cc
+same_words (Miss h a n i) (Hit k) fa fb ca cb e = cc
 same_words (Miss h a n i) (Miss k b m j) fa fb ca cb e =
     let p : take n (bits 32 a) ≡ take m (bits 32 b) = cc in
     let q : (n ≡ m) × (a ≡ b) = prefix_words a b n m fa fb ca cb p in
     cc
-same_words (Miss h a n i) (Drop k) fa fb ca cb e = absurd (let z : ◌≡◌ {A = ℕ} 0 1 = cc in omega arith)
-same_words (Miss h a n i) Unsound fa fb ca cb e = absurd (let z : ◌≡◌ {A = ℕ} 0 1 = cc in omega arith)
-same_words (Drop h) (Hit k) fa fb ca cb e = absurd (let z : ◌≡◌ {A = ℕ} 0 1 = cc in omega arith)
-same_words (Drop h) (Miss k b m j) fa fb ca cb e = absurd (let z : ◌≡◌ {A = ℕ} 0 1 = cc in omega arith)
+same_words (Miss h a n i) (Drop k) fa fb ca cb e = cc
+same_words (Drop h) (Hit k) fa fb ca cb e = cc
+same_words (Drop h) (Miss k b m j) fa fb ca cb e = cc
 same_words (Drop h) (Drop k) fa fb ca cb e = cc
-same_words (Drop h) Unsound fa fb ca cb e = absurd (let z : ◌≡◌ {A = ℕ} 0 1 = cc in omega arith)
-same_words Unsound (Hit k) fa fb ca cb e = absurd (let z : ◌≡◌ {A = ℕ} 0 1 = cc in omega arith)
-same_words Unsound (Miss k b m j) fa fb ca cb e = absurd (let z : ◌≡◌ {A = ℕ} 0 1 = cc in omega arith)
-same_words Unsound (Drop k) fa fb ca cb e = absurd (let z : ◌≡◌ {A = ℕ} 0 1 = cc in omega arith)
-same_words Unsound Unsound fa fb ca cb e = refl
 
--- two answers of one lookup are the same record, word for word
-pub answers_alike : {table cache c d : List ℕ} {t : Tallies} {address : ℕ} {r q : Looked}
+-- no answer is said as a refusal
+not_refused : (a : Answer) → ¬ (answer_of a ≡ refused 9)
+not_refused (Hit h) e = cc
+not_refused (Miss h a n i) e = cc
+not_refused (Drop k) e = cc
+
+-- a refusal has no word but its number
+same_results : (t : Tallies) (r q : Result Looked Unsound)
+    → IfOk r (λ l. AddressFits l.answer) → IfOk q (λ l. AddressFits l.answer) → IfOk r (λ l. ClearedIn l.answer) → IfOk q (λ l. ClearedIn l.answer)
+    → said r ≡ said q → tallies_in t r ≡ tallies_in t q → r ≡ q
+same_results t (Ok l) (Ok m) fa fb ca cb e k =
+    let w = same_words l.answer m.answer fa fb ca cb e in
+    λ i. Ok (record { answer = w i; tallies = k i })
+same_results t (Ok l) (Err d) fa fb ca cb e k = absurd (not_refused l.answer e)
+same_results t (Err d) (Ok m) fa fb ca cb e k = absurd (not_refused m.answer (sym e))
+same_results t (Err d) (Err f) fa fb ca cb e k = refl
+
+-- two answers of one lookup are the same, word for word
+pub answers_alike : {table cache c d : List ℕ} {t : Tallies} {address : ℕ} {r q : Result Looked Unsound}
     → SoundPair table cache
     → (SoundPair table cache → LookedUp table cache c t address r)
     → (SoundPair table cache → LookedUp table cache d t address q)
-    → AddressFits r.answer
-    → AddressFits q.answer
+    → IfOk r (λ l. AddressFits l.answer)
+    → IfOk q (λ l. AddressFits l.answer)
     → r ≡ q
-answers_alike {r} {q} S A B fa fb =
+answers_alike {t} {r} {q} S A B fa fb =
     let a = A S in
     let b = B S in
-    let e : r.answer ≡ q.answer = same_words r.answer q.answer fa fb a.cleared b.cleared (a.answer ∙ sym b.answer) in
-    let k : r.tallies ≡ q.tallies = a.state.are_tallies ∙ sym b.state.are_tallies in
-    λ i. record { answer = e i; tallies = k i }
+    same_results t r q fa fb a.cleared b.cleared (a.answer ∙ sym b.answer) (a.state.are_tallies ∙ sym b.state.are_tallies)

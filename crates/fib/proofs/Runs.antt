@@ -5,10 +5,11 @@ use mathlib.Core.Logic.{◌↔◌}
 use Prim.Native.Nat.{ℕ, ◌<◌, ◌^◌}
 use native.Mathlib.Omega.{arith}
 use lib.ListN.{length}
+use Rattle.std.specs.Prelude.{Result, Ok, Err, OnOk}
 use Rattle.prefix.specs.Bits.{bits}
 use Rattle.prefix.proofs.BitLaws.{length_bits}
-use Rattle.sizes.specs.declared.Setup.{Setup}
-use Rattle.sizes.specs.declared.Setup.TheVariants.{Done, ShortStore, BadLimit}
+use Rattle.sizes.specs.declared.SetupError.{SetupError}
+use Rattle.sizes.specs.declared.refusal.Unsound.{Unsound}
 use Rattle.tallies.specs.Counting.{zero_tallies, held_sum}
 use Rattle.tallies.specs.declared.Tallies.{Tallies}
 use Rattle.model.specs.Lists.{◌∈◌}
@@ -22,18 +23,21 @@ use Rattle.model.proofs.HeldSum.{held_of_run}
 use Rattle.table.specs.Tables.{routes, TableSetUp}
 use Rattle.entries.specs.Caches.{entries}
 use Rattle.cache.specs.Calls.{CacheSetUp}
+use Rattle.verdicts.specs.declared.UpdateError.{UpdateError}
 use Rattle.updates.specs.Updates.{update_of}
 use Rattle.updates.specs.declared.Update.{Update}
 use Rattle.pairs.specs.Pairs.{SoundPair, limits_of}
 use Rattle.pairs.specs.States.{state_of, Reached}
-use Rattle.lookup.specs.Promises.{answer_of, LookedUp}
-use Rattle.refresh.specs.Promises.{updated_of, Refused, UpdatePromise}
+use Rattle.lookup.specs.Promises as lookups
+use Rattle.lookup.specs.Promises.{said, LookedUp}
+use Rattle.refresh.specs.Promises as updates
+use Rattle.refresh.specs.Promises.{update_number, updated_of, Refused, UpdatePromise}
 use Rattle.fib.specs.Runs.{Stores, held, Call, look, update, call_of, Called, by_look, by_update, Calls, no_calls, and_calls, Follows, SoundKept}
 use Rattle.lookup.specs.declared.Looked.{Looked}
 use Rattle.refresh.specs.declared.Updated.{Updated}
 use Rattle.pairs.proofs.Pairing.{legal_pair}
 use Rattle.fib.proofs.Setups.{fresh_pair, fresh_limits, fresh_holds, table_again, table_refused, cache_again, cache_refused}
-use Rattle.fib.proofs.Outcomes.{lookup_does, update_does, same_through, short_not_done, bad_not_done}
+use Rattle.fib.proofs.Outcomes.{lookup_does, update_does, same_through, not_done}
 
 -- ---- soundness
 
@@ -46,15 +50,13 @@ sound_kept {table} {cache} S = record {
   by_cache_set_up = λ c limit r P. caches c limit r P;
 }
   where
-    tables : (w : List ℕ) (limit : ℕ) (r : Setup) → TableSetUp table w limit r → SoundPair w cache ↔ (r ≡ Done → entries cache ≡ [])
-    tables w limit Done P = let b = table_again table w limit Done P refl cache S.its_cache in (λ z _. b.0 z, λ f. b.1 (f refl))
-    tables w limit ShortStore P = (λ z e. absurd (short_not_done e), λ _. table_refused table w cache limit ShortStore P short_not_done S)
-    tables w limit BadLimit P = (λ z e. absurd (bad_not_done e), λ _. table_refused table w cache limit BadLimit P bad_not_done S)
+    tables : (w : List ℕ) (limit : ℕ) (r : Result (Unit {0}) SetupError) → TableSetUp table w limit r → SoundPair w cache ↔ OnOk r (entries cache ≡ [])
+    tables w limit (Ok x) P = table_again table w limit (Ok x) P refl cache S.its_cache
+    tables w limit (Err e) P = (λ _. tt, λ _. table_refused table w cache limit (Err e) P (not_done e) S)
 
-    caches : (c : List ℕ) (limit : ℕ) (r : Setup) → CacheSetUp cache c limit r → SoundPair table c
-    caches c limit Done P = cache_again table cache c limit Done S.its_table P refl
-    caches c limit ShortStore P = cache_refused table cache c limit ShortStore P short_not_done S
-    caches c limit BadLimit P = cache_refused table cache c limit BadLimit P bad_not_done S
+    caches : (c : List ℕ) (limit : ℕ) (r : Result (Unit {0}) SetupError) → CacheSetUp cache c limit r → SoundPair table c
+    caches c limit (Ok x) P = cache_again table cache c limit (Ok x) S.its_table P refl
+    caches c limit (Err e) P = cache_refused table cache c limit (Err e) P (not_done e) S
 
 -- ---- one call
 
@@ -156,7 +158,7 @@ all_full L e (look address ∷ l) = demands.and_calls (length_bits 32 address �
 all_full L e (update u ∷ l) = demands.and_calls tt (all_full L e l)
 
 -- both stores just set up, with the limits asked for, and a zero record
-module _ {t t' c c' : List ℕ} {routes-limit entries-limit : ℕ} {r q : Setup} (A : TableSetUp t t' routes-limit r) (done : r ≡ Done) (B : CacheSetUp c c' entries-limit q) (ok : q ≡ Done) where
+module _ {t t' c c' : List ℕ} {routes-limit entries-limit : ℕ} {r q : Result (Unit {0}) SetupError} (A : TableSetUp t t' routes-limit r) (done : r ≡ Ok tt) (B : CacheSetUp c c' entries-limit q) (ok : q ≡ Ok tt) where
   abbrev pub asked : Limits
   asked = record { width = 32; routes = routes-limit; entries = entries-limit }
 
@@ -203,26 +205,26 @@ module _ {t t' c c' : List ℕ} {routes-limit entries-limit : ℕ} {r q : Setup}
         rw (a.tallies, a.caches) (held_of_run asked (map call_of l) n (all_full asked refl l))
 
     -- demand 2, after any run: the next lookup does what the demand says of the routes and entries that stand
-    pub next_lookup : (cache : List ℕ) (address : ℕ) (o : Looked)
+    pub next_lookup : (cache : List ℕ) (address : ℕ) (o : Result Looked Unsound)
         → (SoundPair s.table s.cache → LookedUp s.table s.cache cache s.tallies address o)
         → (evicted : ℕ)
-        × LookupOutcome (routes s.table) (entries s.cache) entries-limit (bits 32 address) (record { answer = answer_of o.answer; cache = entries cache; evicted = evicted })
-        × (o.tallies ≡ tallied s.tallies (answer_of o.answer) evicted)
+        × LookupOutcome (routes s.table) (entries s.cache) entries-limit (bits 32 address) (record { answer = said o; cache = entries cache; evicted = evicted })
+        × (lookups.tallies_in s.tallies o ≡ tallied s.tallies (said o) evicted)
     next_lookup cache address o P =
         let d = lookup_does run_sound P in
         let e = ap (λ (L : Limits). L.entries) run_leaves.its_limits in
-        (d.0, subst (λ (n : ℕ). LookupOutcome (routes s.table) (entries s.cache) n (bits 32 address) (record { answer = answer_of o.answer; cache = entries cache; evicted = d.0 })) e d.1, d.2)
+        (d.0, subst (λ (n : ℕ). LookupOutcome (routes s.table) (entries s.cache) n (bits 32 address) (record { answer = said o; cache = entries cache; evicted = d.0 })) e d.1, d.2)
 
     -- demand 3, after any run: the next accepted update does what the demand says of them
-    pub next_update : (table cache : List ℕ) (u : Update) (o : Updated)
+    pub next_update : (table cache : List ℕ) (u : Update) (o : Result Updated UpdateError)
         → UpdatePromise s.table s.cache table cache s.tallies u o
-        → o.number ≡ 0
-        → UpdateOutcome (held s) (update_of u) (record { answer = updated_of o; state = state_of table cache o.tallies })
+        → update_number o ≡ 0
+        → UpdateOutcome (held s) (update_of u) (record { answer = updated_of o; state = state_of table cache (updates.tallies_in s.tallies o) })
     next_update table cache u o P n = update_does run_sound P n
 
     -- "A refusal is a number from the table and changes nothing."
-    pub next_refused : (table cache : List ℕ) (u : Update) (o : Updated)
+    pub next_refused : (table cache : List ℕ) (u : Update) (o : Result Updated UpdateError)
         → UpdatePromise s.table s.cache table cache s.tallies u o
-        → ¬ (o.number ≡ 0)
+        → ¬ (update_number o ≡ 0)
         → Refused s.table s.cache table cache s.tallies o
     next_refused table cache u o P n = P.refused run_sound n

@@ -31,7 +31,7 @@ use Rattle.slots.specs.Stores.{put_entry, put_child, put_up}
 use Rattle.slots.proofs.ReadLaws.{read_up}
 use Rattle.slots.proofs.KeptLaws.{kept_then, kept_same, plain_entry}
 use Rattle.entries.specs.Caches.{entries, SoundEntries}
-use Rattle.entries.specs.Changed.{Slots}
+use Rattle.entries.specs.Changed.{InStore}
 use Rattle.entries.specs.Walks.{CommonWith, Walked}
 use Rattle.insertion.specs.Hangs.{forked, Beside, Hung}
 use Rattle.entries.proofs.Changing.{Stored, none_stored, entry_stored, child_stored, up_stored, branch_stored}
@@ -96,7 +96,7 @@ module _ (w : List ℕ) (a : Address) (r n hop s : ℕ) (er : bits 32 r ≡ take
 
 -- ---- the first entry
 
-pub first_hung : (w w' u v : List ℕ) (a : Address) (r n hop : ℕ) → Slots w 1 × (entries_held w ≡ 0) → n ≤ 32 → bits 32 r ≡ take 32 (address_bits a)
+pub first_hung : (w w' u v : List ℕ) (a : Address) (r n hop : ℕ) → InStore w 1 × (entries_held w ≡ 0) → n ≤ 32 → bits 32 r ≡ take 32 (address_bits a)
     → u ≡ put_entry w 1 r n hop → v ≡ put_up u 2 0 → w' ≡ put_child v 0 2 → Hung w w' (first_bits a n) hop
 unfolding set_entry set_child set_up
 first_hung w w' u v a r n hop has short er eu ev ew =

@@ -6,7 +6,7 @@ use Rattle.lru_cache.specs.Results.{Inserted}
 use Rattle.slots.specs.Layout.{entries_held, up_in, cache_of, Plain}
 use Rattle.slots.specs.Stores.{put_child, put_branch, put_up, Kept}
 use Rattle.entries.specs.Caches.{Free, SoundEntries}
-use Rattle.entries.specs.Changed.{Slots}
+use Rattle.entries.specs.Changed.{InStore}
 use Rattle.entries.specs.Walks.{Walked}
 
 -- a branch of m bits, of slot s, in a cell: below it the slot's entry in its own cell, and the node x in the other
@@ -16,7 +16,7 @@ forked w s own cell x m =
 
 -- slot s comes after those in use, and x is the node where the walk by X stops, in its cell
 pub record Beside (w : List ℕ) (X : Bits) (s x cell : ℕ) : Type 0 where
-  pub has : Slots w s
+  pub has : InStore w s
   pub after : s ≡ entries_held w + 1
   pub some_held : 0 < entries_held w
   pub x_inside : x / 2 ≤ entries_held w

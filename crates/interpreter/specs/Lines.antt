@@ -1,6 +1,6 @@
 -- What a line of a script does and says, by the model: its call is the model's step, and its answer is the step's answer. "A line of
 -- another form .. prints `bad` once", and does nothing. Assumes nothing.
-use Rattle.std.specs.Prelude.{◌≡◌, List, ℕ, zero, suc, ◌≤◌, take}
+use Rattle.std.specs.Prelude.{◌≡◌, List, ℕ, ◌≤◌, take}
 use Rattle.std.proofs.Math.Option.{Option, none, some}
 use Rattle.sizes.specs.Sizes.{table_need, cache_need}
 use Rattle.sizes.specs.BothStores.{Fixed}
@@ -14,17 +14,14 @@ use Rattle.model.specs.Runs.{Call, Outcome, look, update, step}
 use Rattle.pairs.specs.Pairs.{SoundPair, limits_of}
 use Rattle.pairs.specs.States.{state_of, Reached}
 use Rattle.lookup.specs.declared.Answer.{Answer}
-use Rattle.lookup.specs.declared.Answer.TheVariants.{Hit, Miss, Drop, Unsound}
+use Rattle.lookup.specs.declared.Answer.TheVariants.{Hit, Miss, Drop}
 use Rattle.script.specs.declared.Line.{Line}
 use Rattle.script.specs.declared.Line.TheVariants.{Announce, Withdraw, Look, Bad}
 use Rattle.answers.specs.declared.Said.{Said}
 use Rattle.answers.specs.declared.Said.TheVariants as said
-use Rattle.updates.specs.Updates.{action_of, Means}
+use Rattle.updates.specs.Updates.{action_of}
 use Rattle.updates.specs.declared.Update.{Update}
-use Rattle.updates.specs.declared.Action.TheVariants as action
 use Rattle.interpreter.specs.declared.Answered.{Answered}
-use Rattle.interpreter.specs.declared.Asked.{Asked}
-use Rattle.interpreter.specs.declared.Asked.TheVariants as asked
 
 -- ---- what is said
 
@@ -69,26 +66,13 @@ LineAnswered table cache table' cache' t (Withdraw a n) r = SoundPair table cach
 LineAnswered table cache table' cache' t (Look a) r = SoundPair table cache → CallAnswered table cache table' cache' t (look (bits 32 a)) r
 LineAnswered table cache table' cache' t Bad r = (r ≡ record { said = said.Bad; tallies = t }) × (table' ≡ table) × (cache' ≡ cache)
 
--- ---- what a line asks of the stores
-
 -- the model's call of an update record
 abbrev pub call_of : Update → Call
 call_of u = update (ipv4_bits u.prefix.address) u.prefix.length (action_of u.action)
 
-abbrev pub Asks : Line → Asked → Type 0
-Asks (Announce a n hop) x = (u : Update) × (x ≡ asked.Update u) × Means a n (action.Announce hop) u
-Asks (Withdraw a n) x = (u : Update) × (x ≡ asked.Update u) × Means a n action.Withdraw u
-Asks (Look a) x = x ≡ asked.Look a
-Asks Bad x = x ≡ asked.Nothing
-
--- ---- how the calls' answers are said
+-- ---- how a lookup's answer is said
 
 abbrev pub said_of : Answer → Said
 said_of (Hit hop) = said.Hit hop
 said_of (Miss hop address length examined) = said.Miss hop address length examined
 said_of (Drop examined) = said.Drop examined
-said_of Unsound = said.Refused 9
-
-abbrev pub said_of_update : ℕ → ℕ → ℕ → Said
-said_of_update zero removed changed = said.Done removed changed
-said_of_update (suc k) removed changed = said.Refused (suc k)

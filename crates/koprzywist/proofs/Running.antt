@@ -54,7 +54,7 @@ LineSaid L s line.Bad x = x ≡ said.Bad
 unfoldable pub LinesSaid : {block table cache out : List ℕ} {r : Reached} {t c o : List ℕ} {p : Reached} → Limits → State → Lines block table cache out r t c o p → Type 0
 LinesSaid L s at_start = Unit {0}
 LinesSaid {block} L s (and_line {p = p} K S) =
-    LinesSaid L s K × LineSaid L (lines_state L s K) (line_of (line_from block p.at)) S.step.3.answered.said
+    LinesSaid L s K × LineSaid L (lines_state L s K) (line_of (line_from block p.at)) S.taken.answered.said
 LinesSaid L s (and_written K) = LinesSaid L s K
 
 -- ---- one line
@@ -105,7 +105,7 @@ pub lines_follow : {L : Limits} {block table cache out : List ℕ} {r : Reached}
 unfolding lines_state
 lines_follow at_start F = F
 lines_follow {L} {block} {z = z} (and_line {t' = t'} {c' = c'} {p = p} K S) F =
-    let T = S.step.3 in
+    let T = S.taken in
     subst (λ k. Follows L (stores t' c' k) (line_state L (lines_state L z K) (line_of (line_from block p.at)))) (sym T.are_tallies)
     (line_follows t' c' (line_of (line_from block p.at)) T.answered T.answer (lines_follow K F))
 lines_follow (and_written K) F = lines_follow K F
@@ -118,5 +118,5 @@ pub lines_say : {L : Limits} {block table cache out : List ℕ} {r : Reached} {t
 unfolding LinesSaid
 lines_say at_start F = tt
 lines_say {L} {block} (and_line {t' = t'} {c' = c'} {p = p} K S) F =
-    (lines_say K F, line_says t' c' (line_of (line_from block p.at)) S.step.3.answered S.step.3.answer (lines_follow K F))
+    (lines_say K F, line_says t' c' (line_of (line_from block p.at)) S.taken.answered S.taken.answer (lines_follow K F))
 lines_say (and_written K) F = lines_say K F

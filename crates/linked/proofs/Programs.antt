@@ -7,14 +7,15 @@ use native.Mathlib.Omega.{arith}
 use native.Mathlib.Nat.{mod-eq_of_lt, div-mul-le_self}
 use lib.ListN.{length, take}
 use lib.Pow.{shr_lt}
-use lib.Seq.{length-take-le}
+use Rattle.std.specs.Prelude.{Result, Ok, Err, IfOk}
 use Rattle.prefix.specs.Bits.{bits, value}
 use Rattle.prefix.specs.Prefix.{trimmed}
-use Rattle.prefix.proofs.BitLaws.{length_bits, take_bits, value_bits, bits_inj, trim_bits}
+use Rattle.prefix.proofs.BitLaws.{take_bits, value_bits, bits_inj, trim_bits}
 use Rattle.sizes.specs.Sizes.{setup_for, setup_number}
 use Rattle.sizes.specs.BothStores.{SetUp}
-use Rattle.sizes.specs.declared.Setup.{Setup}
-use Rattle.sizes.specs.declared.Setup.TheVariants.{Done, ShortStore, BadLimit}
+use Rattle.sizes.specs.declared.SetupError.{SetupError}
+use Rattle.sizes.specs.declared.SetupError.TheVariants.{ShortStore, BadLimit}
+use Rattle.sizes.specs.declared.refusal.Unsound.{Unsound}
 use Rattle.tallies.specs.declared.Tallies.{Tallies}
 use Rattle.model.specs.Model.{Limits, values}
 use Rattle.model.specs.Runs.{State, step, answers, after, empty}
@@ -25,22 +26,21 @@ use Rattle.updates.specs.Updates.{action_of}
 use Rattle.updates.specs.declared.Action.{Action}
 use Rattle.updates.specs.declared.Action.TheVariants.{Announce, Withdraw}
 use Rattle.pairs.specs.Pairs.{SoundPair}
-use Rattle.lookup.specs.Promises.{answer_of, ClearedIn}
+use Rattle.lookup.specs.Promises.{answer_of, said, ClearedIn}
 use Rattle.lookup.specs.declared.Answer as lookup
-use Rattle.lookup.specs.declared.Answer.TheVariants.{Hit, Miss, Drop, Unsound}
-use Rattle.refresh.specs.Promises.{updated_number, updated_of}
-use Rattle.c_library.specs.Words.{look_words, look_number}
+use Rattle.lookup.specs.declared.Answer.TheVariants.{Hit, Miss, Drop}
+use Rattle.lookup.specs.declared.Looked.{Looked}
+use Rattle.refresh.specs.Promises.{update_number, removed_in, changed_in, updated_number, updated_of}
+use Rattle.c_library.specs.Words.{answer_words, look_words, look_number}
 use Rattle.c_library.specs.Promises.{SetUpTold, LentLookup, LentUpdate}
 use Rattle.fib.specs.Runs as fib
 use Rattle.fib.specs.Runs.{Stores, Follows}
+use Rattle.fib.proofs.AnswerWords.{length_first}
 use Rattle.fib.proofs.Outcomes.{never_unsound}
 use Rattle.fib.proofs.Runs.{call_follows, fresh_follows}
 use Rattle.linked.specs.Programs.{Call, call_of, Told, address_of, told_of, start, limits, AreWords, Called, by_lookup, by_announce, by_withdraw, Calls, no_calls, and_calls}
 
 -- ---- the words of an answer
-
-length_first : (n a : ℕ) → n ≤ 32 → length (take n (bits 32 a)) ≡ n
-length_first n a h = length-take-le n (bits 32 a) (omega (arith, length_bits 32 a))
 
 -- the first n bits of an address are its value without the k bits past them
 value_first : (n k a : ℕ) → n + k ≡ 32 → a < 2 ^ 32 → value (take n (bits 32 a)) ≡ a / 2 ^ k
@@ -59,14 +59,17 @@ address_of_bits n a short fits cleared =
     let e : n + (32 - n) ≡ 32 = omega arith in
     rw (length_first n a short, value_first n (32 - n) a e fits) (cleared_whole n (32 - n) a e fits cleared)
 
-told_look : (r : lookup.Answer) → AreWords (look_words r) → ClearedIn r → (values (answer_of r)).number ≡ 0
-    → record { number = look_number r; words = look_words r } ≡ told_of (answer_of r)
-unfolding values
-told_look (Hit hop) W c z = refl
-told_look (Miss hop a n nodes) W c z =
+told_answer : (a : lookup.Answer) → AreWords (answer_words a) → ClearedIn a → record { number = 0; words = answer_words a } ≡ told_of (answer_of a)
+told_answer (Hit hop) W c = refl
+told_answer (Miss hop a n nodes) W c =
     rw (length_first n a c.0, address_of_bits n a c.0 (W a (Memᴰ.tail (Memᴰ.tail (Memᴰ.head refl)))) c.1)
-told_look (Drop nodes) W c z = refl
-told_look Unsound W c z = absurd (omega (arith, z))
+told_answer (Drop nodes) W c = refl
+
+told_look : (r : Result Looked Unsound) → AreWords (look_words r) → IfOk r (λ l. ClearedIn l.answer) → (values (said r)).number ≡ 0
+    → record { number = look_number r; words = look_words r } ≡ told_of (said r)
+unfolding values
+told_look (Ok l) W c z = told_answer l.answer W c
+told_look (Err e) W c z = absurd (omega (arith, z))
 
 told_update : (number removed changed : ℕ) → (¬ (number ≡ 0) → (removed ≡ 0) × (changed ≡ 0))
     → record { number = number; words = removed ∷ changed ∷ [] } ≡ told_of (updated_number number removed changed)
@@ -91,8 +94,8 @@ look_goes : {L : Limits} {s : Stores} {z : State} (a number : ℕ) (words cache 
 look_goes {L} {s} {z} a number words cache t W P F =
     let r = P.call in
     let f = call_follows (fib.by_look a cache r P.promise) F in
-    let w : AreWords (look_words r.answer) = subst AreWords P.are_words W in
-    let k : told (look_number r.answer) (look_words r.answer) ≡ told_of (answer_of r.answer) = told_look r.answer w (P.promise F.sound).cleared (never_unsound F.sound P.promise) in (
+    let w : AreWords (look_words r) = subst AreWords P.are_words W in
+    let k : told (look_number r) (look_words r) ≡ told_of (said r) = told_look r w (P.promise F.sound).cleared (never_unsound F.sound P.promise) in (
       rw (P.is_number, P.are_words) (k ∙ ap told_of f.0),
       subst (λ (v : Tallies). Follows L (stores s.table cache v) (step L z (model.look (bits 32 a))).state) (sym P.is_record) f.1,
     )
@@ -105,8 +108,8 @@ update_goes {L} {s} {z} a n action number words table cache t P F =
     let u = P.update in
     let f = call_follows (fib.by_update u table cache r P.promise) F in
     let x : fib.call_of (fib.update u) ≡ model.update (bits 32 a) n (action_of action) = rw (P.means.its_address, P.means.its_length, P.means.its_action) in
-    let none : ¬ (r.number ≡ 0) → (r.removed ≡ 0) × (r.changed ≡ 0) = λ e. (P.promise.refused F.sound e).no_counts in
-    let k : told r.number (r.removed ∷ r.changed ∷ []) ≡ told_of (updated_of r) = told_update r.number r.removed r.changed none in
+    let none : ¬ (update_number r ≡ 0) → (removed_in r ≡ 0) × (changed_in r ≡ 0) = λ e. (P.promise.refused F.sound e).no_counts in
+    let k : told (update_number r) (removed_in r ∷ changed_in r ∷ []) ≡ told_of (updated_of r) = told_update (update_number r) (removed_in r) (changed_in r) none in
     let g : Goes L z (fib.call_of (fib.update u)) (told number words) (stores table cache t) = (
       rw (P.is_number, P.are_words) (k ∙ ap told_of f.0),
       subst (λ (v : Tallies). Follows L (stores table cache v) (step L z (fib.call_of (fib.update u))).state) (sym P.is_record) f.1,
@@ -137,10 +140,10 @@ pub set_up_told : {need : ℕ → ℕ} {Made : List ℕ → List ℕ → ℕ →
 set_up_told P = P.is_number ∙ ap setup_number P.promise.answer
 
 -- 0 is the number of a set-up that was done, and of no other
-zero_done : (r : Setup) → 0 ≡ setup_number r → r ≡ Done
-zero_done Done e = refl
-zero_done ShortStore e = absurd (omega (arith, e))
-zero_done BadLimit e = absurd (omega (arith, e))
+zero_done : (r : Result (Unit {0}) SetupError) → 0 ≡ setup_number r → r ≡ Ok tt
+zero_done (Ok x) e = refl
+zero_done (Err ShortStore) e = absurd (omega (arith, e))
+zero_done (Err BadLimit) e = absurd (omega (arith, e))
 
 -- both set-ups returned 0, and any calls followed
 module _ {table table' cache cache' : List ℕ} {routes entries : ℕ} (A : SetUpTold (TableSetUp table table' routes) 0) (B : SetUpTold (CacheSetUp cache cache' entries) 0)

@@ -1,3 +1,2 @@
 pub mod Storing
 pub mod Looking
-pub mod Refusing

@@ -33,19 +33,16 @@ use Rattle.lru_cache.specs.Sound as lru
 use Rattle.lru_cache.proofs.Shape.{no_overlap}
 use Rattle.lru_cache.proofs.Holding.{first_entry, omit_entry}
 use Rattle.slots.specs.Layout.{entries_held, cache_of}
-use Rattle.slots.specs.Headers.{HeaderRead}
-use Rattle.slots.specs.declared.Header.{Header}
-use Rattle.slots.specs.declared.Shape.{Shape}
-use Rattle.slots.specs.declared.Shape.TheVariants.{Fits, Broken}
+use Rattle.std.specs.Prelude.{Result, Ok, Some, None, IfOk}
+use Rattle.sizes.specs.declared.refusal.Unsound.{Unsound}
 use Rattle.table.specs.Tables.{routes, SoundTable}
 use Rattle.search.specs.Matches.{found_for, Matched}
 use Rattle.search.specs.declared.Answer as search
-use Rattle.search.specs.declared.Found.TheVariants.{Match, Nothing}
+use Rattle.search.specs.declared.Match.{Match}
 use Rattle.entries.specs.Caches.{entries, Slot, entry_in, others_in, Free, SoundEntries, NearestTo, Holds}
-use Rattle.entries.specs.declared.find.Nearest.{Nearest}
-use Rattle.entries.specs.declared.find.Nearest.TheVariants.{Hit, Miss}
+use Rattle.entries.specs.declared.find.Absent.{Absent}
 use Rattle.pairs.specs.Pairs.{SoundPair}
-use Rattle.lookup.specs.Promises.{answer_of, ClearedIn, LookedUp}
+use Rattle.lookup.specs.Promises.{said, tallies_in, ClearedIn, LookedUp}
 use Rattle.lookup.specs.Lookups.{Missed, LookedAt, Used, Stored}
 use Rattle.lookup.specs.declared.Answer.TheVariants as answers
 use Rattle.lookup.specs.declared.Looked.{Looked}
@@ -61,9 +58,9 @@ none_first f c h = go (first f c) refl
     go (some x) e = let k = first_in f c e in absurd (clash k.1 (h x k.0))
 
 -- the outcome is the model's if the answer, the tallies and the entries are
-finish : {table cache cache' : List ℕ} {tallies : Tallies} (x : Address) {r : Looked} (l : model.Looked) → SoundPair table cache
+finish : {table cache cache' : List ℕ} {tallies : Tallies} (x : Address) {r : Result Looked Unsound} (l : model.Looked) → SoundPair table cache
     → lookup (routes table) (entries cache) (limit_of cache) (ipv4_bits x) ≡ l
-    → answer_of r.answer ≡ l.answer → ClearedIn r.answer → r.tallies ≡ tallied tallies l.answer l.evicted → Holds cache' l.cache → Fixed cache_need cache cache'
+    → said r ≡ l.answer → IfOk r (λ a. ClearedIn a.answer) → tallies_in tallies r ≡ tallied tallies l.answer l.evicted → Holds cache' l.cache → Fixed cache_need cache cache'
     → LookedAt table cache cache' tallies (ipv4_bits x) r
 unfolding step looked
 finish {table} {cache} {cache'} {tallies} x {r} l S z a b t h k = record {
@@ -83,31 +80,31 @@ finish {table} {cache} {cache'} {tallies} x {r} l S z a b t h k = record {
 
 -- ---- a miss
 
-found_none : (o : Option Route) → Nothing ≡ found_for o → o ≡ none
+found_none : (o : Option Route) → None ≡ found_for o → o ≡ none
 found_none none e = refl
 found_none (some M) e = let z : ◌≡◌ {A = ℕ} 0 1 = cc in absurd (omega arith)
 
-found_some : (o : Option Route) (hop own : ℕ) → Match hop own ≡ found_for o → (M : Route) × (o ≡ some M) × (hop ≡ M.hop)
-found_some none hop own e = let z : ◌≡◌ {A = ℕ} 0 1 = cc in absurd (omega arith)
-found_some (some M) hop own e = (M, refl, cc)
+found_some : (o : Option Route) (f : Match) → Some f ≡ found_for o → (M : Route) × (o ≡ some M) × (f.hop ≡ M.hop)
+found_some none f e = let z : ◌≡◌ {A = ℕ} 0 1 = cc in absurd (omega arith)
+found_some (some M) f e = (M, refl, cc)
 
 module _ (table cache : List ℕ) (x : Address) (s : search.Answer) (m : SoundTable table → Matched table (ipv4_bits x) s) where
   none_hit : {past : ℕ} → Missed cache (ipv4_bits x) past → first (λ E. contains E.prefix (ipv4_bits x)) (entries cache) ≡ none
   none_hit M = none_first (λ E. contains E.prefix (ipv4_bits x)) (entries cache) M.none_cached
 
-  pub dropped : s.found ≡ Nothing → (past : ℕ) (t u : Tallies) → u ≡ after_drop t → SoundPair table cache → Missed cache (ipv4_bits x) past
-      → LookedAt table cache cache t (ipv4_bits x) (record { answer = answers.Drop s.examined; tallies = u })
+  pub dropped : s.found ≡ None → (past : ℕ) (t u : Tallies) → u ≡ after_drop t → SoundPair table cache → Missed cache (ipv4_bits x) past
+      → LookedAt table cache cache t (ipv4_bits x) (Ok (record { answer = answers.Drop s.examined; tallies = u }))
   unfolding lookup look_cache look_table
   dropped e past t u f S M =
       let none-matches = found_none (match (routes table) (ipv4_bits x)) (sym e ∙ (m S.its_table).is_match) in
       finish x (record { answer = model.drop (examined (routes table) (ipv4_bits x)); cache = entries cache; evicted = 0 }) S
       (rw (none_hit M, none-matches)) (ap model.drop (m S.its_table).count) tt f (record { sound = S.its_cache; are_entries = refl }) (refl, refl)
 
-  module _ (hop own : ℕ) (e : s.found ≡ Match hop own) where
-    route : SoundPair table cache → (M : Route) × (match (routes table) (ipv4_bits x) ≡ some M) × (hop ≡ M.hop)
-    route S = found_some (match (routes table) (ipv4_bits x)) hop own (sym e ∙ (m S.its_table).is_match)
+  module _ (f : Match) (e : s.found ≡ Some f) where
+    route : SoundPair table cache → (M : Route) × (match (routes table) (ipv4_bits x) ≡ some M) × (f.hop ≡ M.hop)
+    route S = found_some (match (routes table) (ipv4_bits x)) f (sym e ∙ (m S.its_table).is_match)
 
-    pub bad_hop : 65535 < hop → (past : ℕ) {cache' : List ℕ} {t : Tallies} {r : Looked} → SoundPair table cache → Missed cache (ipv4_bits x) past → LookedAt table cache cache' t (ipv4_bits x) r
+    pub bad_hop : 65535 < f.hop → (past : ℕ) {cache' : List ℕ} {t : Tallies} {r : Result Looked Unsound} → SoundPair table cache → Missed cache (ipv4_bits x) past → LookedAt table cache cache' t (ipv4_bits x) r
     bad_hop l past S M = let r = route S in absurd (omega (arith, r.2, routes_hops S.its_table r.0 (match_longest (routes table) (ipv4_bits x) r.1).is_route))
 
     module _ (past n : ℕ) (en : n ≡ max s.least past) where
@@ -122,46 +119,39 @@ module _ (table cache : List ℕ) (x : Address) (s : search.Answer) (m : SoundTa
             stored_storable (routes table) (entries cache) (ipv4_bits x) M l N.none_cached (rw (length_ipv4 x) (routes_short table)) (rw (length_ipv4 x) (short_entries S.its_cache)),
           )
 
-      pub too_long : 32 < n → {cache' : List ℕ} {t : Tallies} {r : Looked} → SoundPair table cache → Missed cache (ipv4_bits x) past → LookedAt table cache cache' t (ipv4_bits x) r
+      pub too_long : 32 < n → {cache' : List ℕ} {t : Tallies} {r : Result Looked Unsound} → SoundPair table cache → Missed cache (ipv4_bits x) past → LookedAt table cache cache' t (ipv4_bits x) r
       too_long l S N = let r = route S in absurd (omega (arith, is_new S N r.0 r.1, (facts S N r.0 r.1).0))
 
-      pub missed : (cache' : List ℕ) (t : Tallies) (r : Looked) → (SoundEntries cache → Free cache (take n (ipv4_bits x)) → Stored cache cache' (ipv4_bits x) n hop s.examined t r)
+      pub missed : (cache' : List ℕ) (t : Tallies) (r : Result Looked Unsound) → (SoundEntries cache → Free cache (take n (ipv4_bits x)) → Stored cache cache' (ipv4_bits x) n f.hop s.examined t r)
           → SoundPair table cache → Missed cache (ipv4_bits x) past → LookedAt table cache cache' t (ipv4_bits x) r
       unfolding lookup look_cache look_table
       missed cache' t r put S N = go (route S)
         where
-          go : (M : Route) × (match (routes table) (ipv4_bits x) ≡ some M) × (hop ≡ M.hop) → LookedAt table cache cache' t (ipv4_bits x) r
-          go (M, f, g) =
-              let z = is_new S N M f in
-              let q = put S.its_cache (rw z (facts S N M f).1.overlaps_nothing) in
+          go : (M : Route) × (match (routes table) (ipv4_bits x) ≡ some M) × (f.hop ≡ M.hop) → LookedAt table cache cache' t (ipv4_bits x) r
+          go (M, m_is, g) =
+              let z = is_new S N M m_is in
+              let q = put S.its_cache (rw z (facts S N M m_is).1.overlaps_nothing) in
               finish x (record {
-                answer = model.miss hop (take n (ipv4_bits x)) s.examined;
-                cache = take (limit_of cache) (record { prefix = take n (ipv4_bits x); hop = hop } ∷ entries cache);
+                answer = model.miss f.hop (take n (ipv4_bits x)) s.examined;
+                cache = take (limit_of cache) (record { prefix = take n (ipv4_bits x); hop = f.hop } ∷ entries cache);
                 evicted = suc (length (entries cache)) - limit_of cache;
-              }) S (rw (none_hit N, f, z, g, (m S.its_table).count)) q.answer q.cleared q.counted q.holds q.kept
+              }) S (rw (none_hit N, m_is, z, g, (m S.its_table).count)) q.answer q.cleared q.counted q.holds q.kept
 
 -- ---- the header
-
-module _ (w : List ℕ) (shape : Shape) (read : HeaderRead w shape) where
-  pub broken : shape ≡ Broken → {table w' : List ℕ} {t : Tallies} {address : ℕ} {r : Looked} → SoundPair table w → LookedUp table w w' t address r
-  broken e S = absurd ((rw e at read) S.its_cache.shaped)
-
-  pub header_limit : (h : Header) → shape ≡ Fits h → h.limit ≡ limit_of w
-  header_limit h is = (rw is at read).1
 
 -- ---- the whole
 
 -- the address is that of x
-of_address : {table cache cache' : List ℕ} {t : Tallies} {r : Looked} (x : Address) (address : ℕ) → take 32 (address_bits x) ≡ bits 32 address
+of_address : {table cache cache' : List ℕ} {t : Tallies} {r : Result Looked Unsound} (x : Address) (address : ℕ) → take 32 (address_bits x) ≡ bits 32 address
     → LookedAt table cache cache' t (ipv4_bits x) r → LookedUp table cache cache' t address r
 of_address x address e L = record { answer = rw (← e) L.answer; cleared = L.cleared; state = rw (← e) L.state; sound = L.sound; kept = L.kept }
 
-module _ (cache : List ℕ) (x : Address) (near : Nearest) (found : NearestTo cache (ipv4_bits x) near) where
-  pub hit_slot : (k : ℕ) → near ≡ Hit k → Slot cache k
+module _ (cache : List ℕ) (x : Address) (near : Result ℕ Absent) (found : NearestTo cache (ipv4_bits x) near) where
+  pub hit_slot : (k : ℕ) → near ≡ Ok k → Slot cache k
   hit_slot k e = (rw e at found).0
 
-  pub looked_hit : (k address : ℕ) → near ≡ Hit k → take 32 (address_bits x) ≡ bits 32 address
-      → (cache' : List ℕ) (t : Tallies) (r : Looked) → Used cache cache' k t r → (table : List ℕ) → SoundPair table cache → LookedUp table cache cache' t address r
+  pub looked_hit : (k address : ℕ) → near ≡ Ok k → take 32 (address_bits x) ≡ bits 32 address
+      → (cache' : List ℕ) (t : Tallies) (r : Looked) → Used cache cache' k t r → (table : List ℕ) → SoundPair table cache → LookedUp table cache cache' t address (Ok r)
   unfolding lookup look_cache entries
   looked_hit k address e ea cache' t r u table S =
       of_address x address ea
@@ -187,10 +177,3 @@ module _ (cache : List ℕ) (x : Address) (near : Nearest) (found : NearestTo ca
           go : Dec (i ≡ k) → i ≡ k
           go (yes z) = z
           go (no n) = absurd (apart_not (no_overlap C i k h slot n) (contains_⊑ _ (ipv4_bits x) y) (contains_⊑ _ (ipv4_bits x) yes_k))
-
-  pub looked_miss : (past address : ℕ) → near ≡ Miss past → take 32 (address_bits x) ≡ bits 32 address
-      → (cache' : List ℕ) (t : Tallies) (r : Looked) (table : List ℕ) → (SoundPair table cache → Missed cache (ipv4_bits x) past → LookedAt table cache cache' t (ipv4_bits x) r)
-      → SoundPair table cache → LookedUp table cache cache' t address r
-  looked_miss past address e ea cache' t r table h S =
-      let q = (rw e at found).1 S.its_cache in
-      of_address x address ea (h S (record { none_cached = q.0; nearest = q.1 }))

@@ -7,9 +7,9 @@ use lib.ListN.{length, take, length-append}
 use lib.Seq.{take_at, take_all}
 use Rattle.prefix.specs.Bits.{Bits, bits}
 use Rattle.prefix.specs.Prefix.{trimmed}
-use Rattle.prefix.specs.Addresses.{address_bits, ipv4_bits}
+use Rattle.prefix.specs.Addresses.{ipv4_bits}
 use Rattle.prefix.specs.declared.Address.{Address}
-use Rattle.prefix.proofs.Trimming.{take_trimmed, take_of_trimmed, trimmed_longer}
+use Rattle.prefix.proofs.Trimming.{take_trimmed, trimmed_longer}
 use Rattle.tallies.specs.Counting.{after_hit, after_miss}
 use Rattle.tallies.specs.declared.Tallies.{Tallies}
 use Rattle.model.specs.Model as model
@@ -18,12 +18,12 @@ use Rattle.model.proofs.ListLaws.{take_in}
 use Rattle.sizes.specs.BothStores.{slot_word, word, limit_of}
 use Rattle.slots.specs.Layout.{entries_held, cache_of, Shaped}
 use Rattle.slots.specs.declared.Header.{Header}
-use Rattle.entries.specs.Caches.{entries, entry_in, others_in, Free, SoundEntries, Kept, Holds, Removes, Oldest}
-use Rattle.lookup.specs.Lookups.{Used, FirstBits, Stored, Cleared, MadeRoom}
+use Rattle.entries.specs.Caches.{entries, entry_in, others_in, Free, SoundEntries, Kept, Holds, Removes, OldestOf}
+use Rattle.lookup.specs.Lookups.{Used, Stored, Cleared, MadeRoom}
 use Rattle.lookup.specs.declared.Answer.TheVariants.{Hit, Miss}
 use Rattle.lookup.specs.declared.Looked.{Looked}
-use Rattle.lookup.specs.declared.Room.{Room}
-use Rattle.lookup.specs.declared.Room.TheVariants.{For, Nowhere}
+use Rattle.std.specs.Prelude.{Result, Ok, Err, Some, None}
+use Rattle.sizes.specs.declared.refusal.Unsound.{Unsound}
 use Rattle.pairs.proofs.Pairing.{held_entries}
 
 -- ---- an entry used
@@ -33,15 +33,10 @@ pub used : (w w' : List ℕ) (held k hop : ℕ) (t u : Tallies) → hop ≡ word
 unfolding cache_of
 used w w' held k hop t u e f kept holds = record { says = rw (e, f); holds = holds; kept = (kept.limit_kept, kept.past_kept) }
 
--- ---- the stored address
-
-pub first_bits : (n r : ℕ) (x a : Address) → address_bits a ≡ trimmed n (address_bits x) → bits 32 r ≡ take 32 (address_bits a) → n ≤ 32 → FirstBits (ipv4_bits x) n r
-first_bits n r x a e f l = record { short = l; are_bits = f ∙ ap (take 32) e ∙ take_of_trimmed 32 n (address_bits x) }
-
 -- ---- room
 
 module _ (w : List ℕ) (h : Header) (s : Shaped w) (are-limit : h.limit ≡ limit_of w) (are_held : h.entries ≡ entries_held w) where
-  pub has_room : h.entries < h.limit → MadeRoom w w (For h.entries)
+  pub has_room : h.entries < h.limit → MadeRoom w w (Ok h.entries)
   has_room l = record {
     shaped = s;
     is_held = are_held;
@@ -52,23 +47,17 @@ module _ (w : List ℕ) (h : Header) (s : Shaped w) (are-limit : h.limit ≡ lim
     evicted = λ S. omega (arith, held_entries S, are-limit, are_held);
   }
 
-module _ (w : List ℕ) (s : Shaped w) (held : ℕ) (are_held : held ≡ entries_held w) (full : held ≡ limit_of w) (k : ℕ) (old : SoundEntries w → 0 < entries_held w → Oldest w k) where
-  oldest : SoundEntries w → Oldest w k
-  oldest S = old S (omega (arith, s.legal, full, are_held))
+module _ (w : List ℕ) (s : Shaped w) (held : ℕ) (are_held : held ≡ entries_held w) (full : limit_of w ≤ held) where
+  pub no_oldest : OldestOf w None → ¬ (SoundEntries w)
+  no_oldest none S = omega (arith, none S, s.legal, are_held)
 
-  pub no_oldest : k ≡ 0 → MadeRoom w w Nowhere
-  no_oldest z S = omega (arith, (oldest S).slot)
-
-  pub no_such_slot : held < k → MadeRoom w w Nowhere
-  no_such_slot l S = omega (arith, (oldest S).slot, are_held)
-
-  pub others_left : k ≤ held → (w' : List ℕ) → (SoundEntries w → Removes w w' k) → SoundEntries w → Holds w' (take (limit_of w - 1) (entries w))
-  others_left in_use w' gone S = record {
+  pub others_left : (k : ℕ) → OldestOf w (Some k) → (w' : List ℕ) → (SoundEntries w → Removes w w' k) → SoundEntries w → Holds w' (take (limit_of w - 1) (entries w))
+  others_left k old w' gone S = record {
     sound = (gone S).holds.sound;
     are_entries = (gone S).holds.are_entries
-        ∙ sym (ap (take (limit_of w - 1)) (oldest S).is_last
+        ∙ sym (ap (take (limit_of w - 1)) (old.1 S).is_last
         ∙ take_at (others_in w k) (entry_in w k ∷ []) (limit_of w - 1)
-        (omega (arith, ap length (oldest S).is_last, length-append (others_in w k) (entry_in w k ∷ []), held_entries S, full, are_held)));
+        (omega (arith, ap length (old.1 S).is_last, length-append (others_in w k) (entry_in w k ∷ []), held_entries S, full, are_held, s.entries_fit)));
   }
 
 pub one_evicted : (w : List ℕ) → Shaped w → (held : ℕ) → held ≡ entries_held w → held ≡ limit_of w → SoundEntries w → entries_held w - (held - 1) ≡ suc (length (entries w)) - limit_of w
@@ -76,35 +65,23 @@ one_evicted w s held are_held full S = omega (arith, held_entries S, full, are_h
 
 -- ---- an entry stored
 
-pub no_room : (w w' : List ℕ) (room : Room) → MadeRoom w w' room → room ≡ Nowhere → (w'' : List ℕ) (X : Bits) (n hop examined : ℕ) (t : Tallies) (r : Looked)
+pub no_room : (w w' : List ℕ) (e : Unsound) → MadeRoom w w' (Err e) → (w'' : List ℕ) (X : Bits) (n hop examined : ℕ) (t : Tallies) (r : Result Looked Unsound)
     → SoundEntries w → Free w (take n X) → Stored w w'' X n hop examined t r
-no_room w w' room made e w'' X n hop examined t r S f = absurd ((rw e at made) S)
+no_room w w' e none w'' X n hop examined t r S f = absurd (none S)
 
-module _ (w w' : List ℕ) (room : Room) (made : MadeRoom w w' room) (held : ℕ) (is : room ≡ For held) where
-  cleared : Cleared w w' held
-  cleared = rw is at made
-
-  pub room_shaped : Shaped w'
-  room_shaped = cleared.shaped
-
-  pub room_held : held ≡ entries_held w'
-  room_held = cleared.is_held
-
+module _ (w w' : List ℕ) (held : ℕ) (cleared : Cleared w w' held) where
   pub room_left : held < limit_of w'
   room_left = cleared.room
-
-  pub room_fewer : (h : Header) → h.entries ≡ entries_held w → held ≤ h.entries
-  room_fewer h e = omega (arith, cleared.fewer)
 
   pub stored : (w'' : List ℕ) (h : Header) (x : Address) (n hop examined a : ℕ) (t u : Tallies)
       → h.entries ≡ entries_held w
       → Kept w' w'' (suc held) → (SoundEntries w' → Free w' (take n (ipv4_bits x)) → Holds w'' (record { prefix = take n (ipv4_bits x); hop = hop } ∷ entries w'))
-      → FirstBits (ipv4_bits x) n a
+      → bits 32 a ≡ trimmed n (ipv4_bits x) → n ≤ 32
       → u ≡ after_miss t (h.entries - held)
-      → SoundEntries w → Free w (take n (ipv4_bits x)) → Stored w w'' (ipv4_bits x) n hop examined t (record { answer = Miss hop a n examined; tallies = u })
-  stored w'' h x n hop examined a t u are_held kept put ea eu S free = record {
-    answer = ap (λ (p : Bits). model.miss hop p examined) (ap (take n) ea.are_bits ∙ take_trimmed n (ipv4_bits x));
-    cleared = (ea.short, ea.are_bits ∙ sym (ap (trimmed n) ea.are_bits ∙ trimmed_longer n n (ipv4_bits x) (omega arith)));
+      → SoundEntries w → Free w (take n (ipv4_bits x)) → Stored w w'' (ipv4_bits x) n hop examined t (Ok (record { answer = Miss hop a n examined; tallies = u }))
+  stored w'' h x n hop examined a t u are_held kept put ea short eu S free = record {
+    answer = ap (λ (p : Bits). model.miss hop p examined) (ap (take n) ea ∙ take_trimmed n (ipv4_bits x));
+    cleared = (short, ea ∙ sym (ap (trimmed n) ea ∙ trimmed_longer n n (ipv4_bits x) (omega arith)));
     counted = eu ∙ ap (after_miss t) (ap (λ (m : ℕ). m - held) are_held ∙ c.evicted S);
     holds = record { sound = p.sound; are_entries = p.are_entries ∙ before (limit_of w) (omega (arith, c.room, c.kept)) (c.holds S).are_entries };
     kept = (kept.limit_kept ∙ c.kept.0, rw c.kept.0 at kept.past_kept ∙ c.kept.1);

@@ -2,23 +2,23 @@
 // takes every address and every content of the stores, and ends; from a sound pair it does what the model says and leaves it sound.
 #![tactic(auto)]
 
-ghost use Rattle.std.specs.Prelude.{◌≡◌, max, ◌≤◌, take};
-ghost use Rattle.prefix.specs.Addresses.{ipv4_bits};
-ghost use Rattle.sizes.specs.BothStores.{limit_of};
-ghost use Rattle.model.specs.Model.{highest_hop};
-ghost use Rattle.slots.specs.Layout.{entries_held, Shaped};
+ghost use Rattle.std.specs.Prelude.{◌≤◌, Ok};
+ghost use Rattle.prefix.specs.Addresses.{ipv4_bits, prefix_bits};
+ghost use Rattle.slots.specs.Headers.{HeaderRead};
 ghost use Rattle.entries.specs.Caches.{Slot, SoundEntries, Free};
 ghost use Rattle.pairs.specs.Pairs.{SoundPair};
-ghost use Rattle.lookup.specs.Promises.{LookedUp, refused_look, NothingCounted};
-ghost use Rattle.lookup.specs.Lookups.{Missed, LookedAt, Used, FirstBits, Stored, MadeRoom};
+ghost use Rattle.lookup.specs.Promises.{LookedUp, Unfit};
+ghost use Rattle.lookup.specs.Lookups.{Missed, LookedAt, Used, Stored, MadeRoom};
 
-use entries::find::Nearest;
+use entries::entry::Entry;
 use prefix::Address;
-use search::Found;
-use slots::{Header, Shape};
+use prefix::ipv4::Prefix;
+use sizes::refusal::Unsound;
+use slots::Header;
+use slots::view::Slots;
 use tallies::Tallies;
 
-#[derive(Clone, Copy)]
+#[derive(Clone, Copy, Debug, PartialEq, Eq)]
 pub enum Answer {
     // hop
     Hit(u32),
@@ -26,152 +26,131 @@ pub enum Answer {
     Miss(u32, u32, u32, u32),
     // nodes examined
     Drop(u32),
-    // only on stores that are not sound
-    Unsound,
 }
 
-#[derive(Clone, Copy)]
+#[derive(Clone, Copy, Debug, PartialEq, Eq)]
 pub struct Looked {
     pub answer: Answer,
     pub tallies: Tallies,
 }
 
-// The next hop for an address. The table is lent as `&`: a lookup cannot change a route.
-pub fn look_up(table: &[u32], cache: &mut [u32], t: Tallies, address: u32) -> Looked
+// The next hop for an address. The table is lent as `&`: a lookup cannot change a route. A refusal has counted nothing: the
+// tallies are the caller's own.
+pub fn look_up(
+    table: &[u32],
+    cache: &mut [u32],
+    t: Tallies,
+    address: u32,
+) -> Result<Looked, Unsound>
     ensures looked_up { SoundPair table.now cache.old → LookedUp table.now cache.old cache.new t address result }
-    ensures nothing_counted { NothingCounted t result }
+    ensures unfit { Unfit cache.old cache.new result }
 {
-    let x = prefix::from_ipv4(address);
-    let Shape::Fits(h) = slots::read_header(cache) else {
-        return unsound(t);
+    let x = Address::from(address);
+    let h = slots::read_header(cache)?;
+    let lent = Slots {
+        store: cache,
+        count: h.entries,
     };
-    match entries::find::find_entry(cache, h.entries, x) {
-        Nearest::Hit(k) => hit(cache, h.entries, k, t),
-        Nearest::Miss(past) => miss(table, cache, h, x, past, t),
-    }
-}
-
-fn unsound(t: Tallies) -> Looked
-    ensures { result ≡ refused_look t }
-{
-    Looked {
-        answer: Answer::Unsound,
-        tallies: t,
+    match entries::find::find_entry(lent, x) {
+        Ok(k) => Ok(hit(cache, h, k, t)),
+        Err(absent) => miss(table, cache, h, x, absent.past, t),
     }
 }
 
 // The entry of slot k contains the address: it becomes the most recently used.
-fn hit(cache: &mut [u32], entries: u32, k: u32, t: Tallies) -> Looked
-    requires shaped { Shaped cache.old }
-    requires entries_value { entries ≡ entries_held cache.old }
+fn hit(cache: &mut [u32], h: Header, k: u32, t: Tallies) -> Looked
+    requires header { HeaderRead cache.old (Ok h) }
     requires slot { Slot cache.old k }
     ensures { Used cache.old cache.new k t result }
 {
     let hop = slots::hop_of(cache, k);
-    entries::order::to_front(cache, entries, k);
+    entries::order::to_front(cache, h.entries, k);
     Looked {
         answer: Answer::Hit(hop),
-        tallies: tallies::count_hit(t),
+        tallies: t.count_hit(),
     }
 }
 
 // No entry contains the address. Without a match it is dropped at once, before any entry is chosen.
-fn miss(table: &[u32], cache: &mut [u32], h: Header, x: Address, past: u32, t: Tallies) -> Looked
-    requires shaped { Shaped cache.old }
-    requires limit_value { (h.limit ≡ limit_of cache.old) × (h.entries ≡ entries_held cache.old) }
-    ensures looked_at { SoundPair table.now cache.old → Missed cache.old (ipv4_bits x) past → LookedAt table.now cache.old cache.new t (ipv4_bits x) result }
-    ensures nothing_counted { NothingCounted t result }
-{
-    let s = search::longest_match(table, x);
-    let found = s.found;
-    let Found::Match(hop, length) = found else {
-        return Looked {
-            answer: Answer::Drop(s.examined),
-            tallies: tallies::count_drop(t),
-        };
-    };
-    let n = larger(s.least, past);
-    if 32 < n {
-        return unsound(t);
-    }
-    if sizes::HIGHEST_HOP < hop {
-        return unsound(t);
-    }
-    store_entry(cache, h, x, n, hop, s.examined, t)
-}
-
-fn larger(m: u32, n: u32) -> u32
-    ensures { result ≡ max m n }
-{
-    if m <= n { n } else { m }
-}
-
-// The first n bits of x come in as the most recently used entry; a full cache gives up its least recently used one.
-fn store_entry(
+fn miss(
+    table: &[u32],
     cache: &mut [u32],
     h: Header,
     x: Address,
-    n: u32,
-    hop: u32,
+    past: u32,
+    t: Tallies,
+) -> Result<Looked, Unsound>
+    requires header { HeaderRead cache.old (Ok h) }
+    ensures { SoundPair table.now cache.old → Missed cache.old (ipv4_bits x) past → LookedAt table.now cache.old cache.new t (ipv4_bits x) result }
+{
+    let s = search::longest_match(table, x);
+    let Some(found) = s.found else {
+        return Ok(Looked {
+            answer: Answer::Drop(s.examined),
+            tallies: t.count_drop(),
+        });
+    };
+    let n = s.least.max(past);
+    if 32 < n {
+        return Err(Unsound);
+    }
+    if sizes::HIGHEST_HOP < found.hop {
+        return Err(Unsound);
+    }
+    let new = Entry {
+        prefix: Prefix {
+            address: x,
+            length: n,
+        },
+        hop: found.hop,
+    };
+    store_entry(cache, h, new, s.examined, t)
+}
+
+// A new entry comes in as the most recently used; a full cache gives up its least recently used one.
+fn store_entry(
+    cache: &mut [u32],
+    h: Header,
+    new: Entry,
     examined: u32,
     t: Tallies,
-) -> Looked
-    requires shaped { Shaped cache.old }
-    requires limit_value { (h.limit ≡ limit_of cache.old) × (h.entries ≡ entries_held cache.old) }
-    requires n_bound { (n ≤ 32) × (hop ≤ highest_hop) }
-    ensures stored { SoundEntries cache.old → Free cache.old (take n (ipv4_bits x)) → Stored cache.old cache.new (ipv4_bits x) n hop examined t result }
-    ensures nothing_counted { NothingCounted t result }
+) -> Result<Looked, Unsound>
+    requires header { HeaderRead cache.old (Ok h) }
+    ensures { SoundEntries cache.old → Free cache.old (prefix_bits new.prefix) → Stored cache.old cache.new (ipv4_bits new.prefix.address) new.prefix.length new.hop examined t result }
 {
-    let Room::For(held) = make_room(cache, h) else {
-        return unsound(t);
-    };
-    insertion::insert_entry(cache, held, x, n, hop);
-    Looked {
-        answer: Answer::Miss(hop, stored_address(x, n), n, examined),
-        tallies: tallies::count_miss(t, h.entries - held),
-    }
-}
-
-// The first n bits of x, and zeros after them.
-fn stored_address(x: Address, n: u32) -> u32
-    requires { n ≤ 32 }
-    ensures { FirstBits (ipv4_bits x) n result }
-{
-    prefix::to_ipv4(prefix::trim_high(x, n))
-}
-
-#[derive(Clone, Copy)]
-enum Room {
-    For(u32),
-    Nowhere,
+    let held = make_room(cache, h)?;
+    insertion::insert_entry(cache, held, new);
+    let p = new.prefix;
+    Ok(Looked {
+        answer: Answer::Miss(new.hop, p.cleared(), p.length, examined),
+        tallies: t.count_miss(h.entries - held),
+    })
 }
 
 // The entries that are left once there is room for one more.
-fn make_room(cache: &mut [u32], h: Header) -> Room
-    requires shaped { Shaped cache.old }
-    requires limit_value { (h.limit ≡ limit_of cache.old) × (h.entries ≡ entries_held cache.old) }
+fn make_room(cache: &mut [u32], h: Header) -> Result<u32, Unsound>
+    requires header { HeaderRead cache.old (Ok h) }
     ensures { MadeRoom cache.old cache.new result }
 {
     if h.entries < h.limit {
-        return Room::For(h.entries);
+        return Ok(h.entries);
     }
-    give_way(cache, h.entries)
+    give_way(cache, h)
 }
 
 // The least recently used entry of a full cache leaves.
-fn give_way(cache: &mut [u32], entries: u32) -> Room
-    requires shaped { Shaped cache.old }
-    requires entries_value { entries ≡ entries_held cache.old }
-    requires entries_value_2 { entries ≡ limit_of cache.old }
+fn give_way(cache: &mut [u32], h: Header) -> Result<u32, Unsound>
+    requires header { HeaderRead cache.old (Ok h) }
+    requires full { h.limit ≤ h.entries }
     ensures { MadeRoom cache.old cache.new result }
 {
-    let k = entries::order::oldest(cache);
-    if k == 0 {
-        return Room::Nowhere;
-    }
-    if entries < k {
-        return Room::Nowhere;
-    }
-    removal::remove_entry(cache, entries, k);
-    Room::For(entries - 1)
+    let lent = Slots {
+        store: cache,
+        count: h.entries,
+    };
+    let Some(k) = entries::order::oldest(lent) else {
+        return Err(Unsound);
+    };
+    removal::remove_entry(cache, h.entries, k);
+    Ok(h.entries - 1)
 }

@@ -1,5 +1,3 @@
-pub mod HeaderLaws
-pub mod Parts
 pub mod Coding
 pub mod Keeping
 pub mod Spelling

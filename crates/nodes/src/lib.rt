@@ -10,85 +10,87 @@
 // with no case for the root.
 #![tactic(auto)]
 
-ghost use Rattle.std.specs.Prelude.{◌≡◌, ◌/◌, length, take};
-ghost use Rattle.prefix.specs.Bits.{bits};
-ghost use Rattle.prefix.specs.Addresses.{address_bits};
+ghost use Rattle.std.specs.Prelude.{◌≡◌, ◌/◌};
 ghost use Rattle.sizes.specs.Sizes.{table_need};
 ghost use Rattle.sizes.specs.BothStores.{slot_word, word, Room, SetUp};
 ghost use Rattle.nodes.specs.Layout.{cell_word};
 ghost use Rattle.nodes.specs.Headers.{HeaderRead, Emptied};
-ghost use Rattle.nodes.specs.Stores.{put_mark, put_up, put_child, put_node, put_counts, filled_at, node_in};
+ghost use Rattle.nodes.specs.Stores.{put_mark, put_up, put_child, put_node, put_counts, node_in};
 
-use prefix::Address;
-use sizes::Setup;
+use sizes::refusal::Unsound;
+use sizes::{SetupError, Table, slot};
 
-pub const LIMIT: usize = 0;
+pub mod view;
 
-pub const NODES: usize = 1;
+const LIMIT: usize = 0;
 
-pub const ROUTES: usize = 2;
+const NODES: usize = 1;
 
-pub const ROOT: usize = 1019;
+const ROUTES: usize = 2;
 
-const SLOTS: usize = 1016;
+const ROOT: usize = 1019;
+
+// The fields of a node, by their place in its slot.
+const ADDRESS: usize = 0;
+
+const LENGTH: usize = 1;
+
+const MARK: usize = 2;
+
+const LEFT: usize = 3;
+
+const RIGHT: usize = 4;
+
+const UP: usize = 5;
 
 // ---- the header
 
-#[derive(Clone, Copy)]
+#[derive(Clone, Copy, Debug, PartialEq, Eq)]
 pub struct Header {
     pub limit: u32,
     pub nodes: u32,
     pub routes: u32,
 }
 
-#[derive(Clone, Copy)]
-pub enum Shape {
-    Fits(Header),
-    Broken,
-}
-
-// The header, where it fits its store: then every node in use has its eight words.
-pub fn read_header(store: &[u32]) -> Shape
+// The header, where it fits its store: then every node in use has its eight words. The cache's is read in `slots`, since it has
+// other words and other tests.
+pub fn read_header(store: &[u32]) -> Result<Header, Unsound>
     ensures { HeaderRead store.now result }
 {
     let words = store.len();
     if words < sizes::RESERVED_WORDS {
-        return Shape::Broken;
+        return Err(Unsound);
     }
     let limit = store[LIMIT];
     let nodes = store[NODES];
     let routes = store[ROUTES];
-    let Setup::Done = sizes::table_setup(words, limit) else {
-        return Shape::Broken;
+    let Ok(()) = sizes::setup::<Table>(words, limit) else {
+        return Err(Unsound);
     };
-    if 2 * limit < nodes {
-        return Shape::Broken;
+    if 2 * limit < nodes || limit < routes {
+        return Err(Unsound);
     }
-    if limit < routes {
-        return Shape::Broken;
-    }
-    Shape::Fits(Header {
+    Ok(Header {
         limit,
         nodes,
         routes,
     })
 }
 
-// An empty table, where the store is large enough for the limit. Nothing of the store is read.
-pub fn set_up_table(store: &mut [u32], limit: u32) -> Setup
+// An empty table, where the store is large enough for the limit. Nothing of the store is read. An empty cache has other words.
+#[tactic(auto, unfolding(crate::specs::Stores::emptied))]
+pub fn set_up_table(store: &mut [u32], limit: u32) -> Result<(), SetupError>
     ensures { SetUp table_need Emptied store.old store.new limit result }
 {
-    let answer = sizes::table_setup(store.len(), limit);
-    let Setup::Done = answer else {
-        return answer;
-    };
+    sizes::setup::<Table>(store.len(), limit)?;
     store[LIMIT] = limit;
     store[NODES] = 0;
     store[ROUTES] = 0;
     store[ROOT] = 0;
-    answer
+    Ok(())
 }
 
+#[tactic(auto, unfolding(crate::specs::Stores::put_counts))]
 pub fn set_counts(store: &mut [u32], nodes: u32, routes: u32)
     requires { Room store.old 0 }
     ensures { store.new ≡ put_counts store.old nodes routes }
@@ -99,18 +101,11 @@ pub fn set_counts(store: &mut [u32], nodes: u32, routes: u32)
 
 // ---- one word of a node
 
-pub fn address_of(store: &[u32], p: u32) -> Address
-    requires { Room store.now p }
-    ensures { take 32 (address_bits result) ≡ bits 32 (word store.now (slot_word p 0)) }
-{
-    prefix::from_ipv4(store[SLOTS + 8 * (p as usize)])
-}
-
 pub fn length_of(store: &[u32], p: u32) -> u32
     requires { Room store.now p }
     ensures { result ≡ word store.now (slot_word p 1) }
 {
-    store[SLOTS + 8 * (p as usize) + 1]
+    slot::read(store, p, LENGTH)
 }
 
 // The hop and one more, or 0 where the node is a branch.
@@ -118,49 +113,54 @@ pub fn mark_of(store: &[u32], p: u32) -> u32
     requires { Room store.now p }
     ensures { result ≡ word store.now (slot_word p 2) }
 {
-    store[SLOTS + 8 * (p as usize) + 2]
+    slot::read(store, p, MARK)
 }
 
 pub fn up_of(store: &[u32], p: u32) -> u32
     requires { Room store.now p }
     ensures { result ≡ word store.now (slot_word p 5) }
 {
-    store[SLOTS + 8 * (p as usize) + 5]
+    slot::read(store, p, UP)
 }
 
+// In the words of `cell_word`, which are others in a cache.
 pub fn child_of(store: &[u32], cell: u32) -> u32
     requires { Room store.now (cell / 2) }
     ensures { result ≡ word store.now (cell_word cell) }
 {
-    store[SLOTS + 8 * ((cell / 2) as usize) + 3 + ((cell % 2) as usize)]
+    slot::read(store, cell / 2, LEFT + ((cell % 2) as usize))
 }
 
 // ---- stores of one word
 
+#[tactic(auto, unfolding(crate::specs::Stores::put_mark))]
 pub fn set_mark(store: &mut [u32], p: u32, mark: u32)
     requires { Room store.old p }
     ensures { store.new ≡ put_mark store.old p mark }
 {
-    store[SLOTS + 8 * (p as usize) + 2] = mark;
+    slot::write(store, p, MARK, mark);
 }
 
+#[tactic(auto, unfolding(crate::specs::Stores::put_up))]
 pub fn set_up(store: &mut [u32], p: u32, cell: u32)
     requires { Room store.old p }
     ensures { store.new ≡ put_up store.old p cell }
 {
-    store[SLOTS + 8 * (p as usize) + 5] = cell;
+    slot::write(store, p, UP, cell);
 }
 
+#[tactic(auto, unfolding(crate::specs::Stores::put_child))]
+// In the words of `cell_word`, as `child_of`.
 pub fn set_child(store: &mut [u32], cell: u32, p: u32)
     requires { Room store.old (cell / 2) }
     ensures { store.new ≡ put_child store.old cell p }
 {
-    store[SLOTS + 8 * ((cell / 2) as usize) + 3 + ((cell % 2) as usize)] = p;
+    slot::write(store, cell / 2, LEFT + ((cell % 2) as usize), p);
 }
 
 // ---- a node by value
 
-#[derive(Clone, Copy)]
+#[derive(Clone, Copy, Debug, PartialEq, Eq)]
 pub struct Node {
     pub address: u32,
     pub length: u32,
@@ -170,38 +170,30 @@ pub struct Node {
     pub up: u32,
 }
 
+#[tactic(auto, unfolding(crate::specs::Stores::node_in))]
 pub fn node_at(store: &[u32], p: u32) -> Node
     requires { Room store.now p }
     ensures { result ≡ node_in store.now p }
 {
-    let start = SLOTS + 8 * (p as usize);
     Node {
-        address: store[start],
-        length: store[start + 1],
-        mark: store[start + 2],
-        left: store[start + 3],
-        right: store[start + 4],
-        up: store[start + 5],
+        address: slot::read(store, p, ADDRESS),
+        length: slot::read(store, p, LENGTH),
+        mark: slot::read(store, p, MARK),
+        left: slot::read(store, p, LEFT),
+        right: slot::read(store, p, RIGHT),
+        up: slot::read(store, p, UP),
     }
 }
 
-// The words of one node, lent as a part of the store.
-fn fill(slot: &mut [u32], node: Node)
-    requires { length slot.old ≡ 8 }
-    ensures { slot.new ≡ filled_at slot.old 0 node }
-{
-    slot[0] = node.address;
-    slot[1] = node.length;
-    slot[2] = node.mark;
-    slot[3] = node.left;
-    slot[4] = node.right;
-    slot[5] = node.up;
-}
-
+#[tactic(auto, unfolding(crate::specs::Stores::put_node, crate::specs::Stores::filled_at))]
 pub fn put_node(store: &mut [u32], p: u32, node: Node)
     requires { Room store.old p }
     ensures { store.new ≡ put_node store.old p node }
 {
-    let start = SLOTS + 8 * (p as usize);
-    fill(&mut store[start..start + 8], node);
+    slot::write(store, p, ADDRESS, node.address);
+    slot::write(store, p, LENGTH, node.length);
+    slot::write(store, p, MARK, node.mark);
+    slot::write(store, p, LEFT, node.left);
+    slot::write(store, p, RIGHT, node.right);
+    slot::write(store, p, UP, node.up);
 }

@@ -3,14 +3,12 @@
 
 ghost use Rattle.std.specs.Prelude.{◌≡◌, ◌≤◌, ◌<◌};
 ghost use Rattle.model.specs.Demands.{Covered};
-ghost use Rattle.slots.specs.Layout.{entries_held};
 ghost use Rattle.table.specs.Tables.{routes, SoundTable};
 ghost use Rattle.entries.specs.Caches.{entry_in, SoundEntries};
 ghost use Rattle.cache.specs.Checks.{Decides};
 ghost use Rattle.pairs.specs.Pairs.{PairChecked};
 
-use search::Found;
-use slots::Shape;
+use slots::view::Slots;
 
 pub fn check_pair(table: &[u32], cache: &[u32]) -> bool
     ensures { PairChecked table.now cache.now result }
@@ -21,45 +19,40 @@ pub fn check_pair(table: &[u32], cache: &[u32]) -> bool
     if !cache::check::check_entries(cache) {
         return false;
     }
-    let Shape::Fits(h) = slots::read_header(cache) else {
+    let Ok(slots) = Slots::open(cache) else {
         return false;
     };
-    all_covered(table, cache, h.entries)
+    all_covered(table, slots)
 }
 
 // Whether every entry is right by the routes: one look at each slot.
-fn all_covered(table: &[u32], cache: &[u32], entries: u32) -> bool
-    requires sound_table { (SoundTable table.now) × (SoundEntries cache.now) }
-    requires entries_value { entries ≡ entries_held cache.now }
-    ensures { PairChecked table.now cache.now result }
+fn all_covered(table: &[u32], slots: Slots) -> bool
+    requires sound_table { SoundTable table.now }
+    requires sound_entries { SoundEntries slots.store.now }
+    ensures { PairChecked table.now slots.entry.store.now result }
 {
-    let mut i: u32 = 1;
-    while i <= entries {
-        if !covered(table, cache, i) {
+    for i in 1..=slots.count {
+        if !covered(table, slots, i) {
             return false;
         }
-        i += 1;
     }
     true
 }
 
 // Whether slot i's entry has a covering route, no route strictly inside, and its match's hop.
-fn covered(table: &[u32], cache: &[u32], i: u32) -> bool
-    requires sound_table { (SoundTable table.now) × (SoundEntries cache.now) }
-    requires i_nonzero { (0 < i) × (i ≤ entries_held cache.now) }
-    ensures { Decides (Covered (routes table.now) (entry_in cache.now i)) result }
+fn covered(table: &[u32], slots: Slots, i: u32) -> bool
+    requires sound_table { SoundTable table.now }
+    requires sound_entries { SoundEntries slots.store.now }
+    requires an_entry { 0 < i }
+    requires in_use { i ≤ slots.count }
+    ensures { Decides (Covered (routes table.now) (entry_in slots.entry.store.now i)) result }
 {
-    let s = search::judge(
-        table,
-        slots::address_of(cache, i),
-        slots::length_of(cache, i),
-    );
-    let found = s.found;
-    let Found::Match(hop, _) = found else {
+    let s = search::judge(table, slots.address_of(i), slots.length_of(i));
+    let Some(found) = s.found else {
         return false;
     };
     if s.inside {
         return false;
     }
-    slots::hop_of(cache, i) == hop
+    slots.hop_of(i) == found.hop
 }

@@ -1,18 +1,21 @@
 -- Laws of the 128 bits of an address. Assumes nothing.
 use mathlib.Core.Path.{◌≡◌, refl, sym, ap, ap₂, ◌∙◌}
-use mathlib.Core.Bool.{false}
+use mathlib.Core.Bool.{Bool, true, false}
+use mathlib.Core.Logic.{◌⊎◌, inl, inr}
 use mathlib.Core.List.{◌++◌}
 use Prim.Native.Nat.{ℕ, ◌+◌, ◌-◌, ◌*◌, ◌/◌, ◌^◌, ◌≤◌, ◌<◌, min}
 use native.Mathlib.Omega.{arith}
+use Rattle.std.proofs.Math.Nat.{min-eq_left}
 use lib.ListN.{length, take, get_or, replicate, length-append}
-use lib.Seq.{length-take-le, take-append-le, take_at, take-take, get_or-take}
-use lib.Dec.{leb}
+use lib.Seq.{length-take-le, take-append-le, take-take, get_or-take}
+use lib.Dec.{leb, ltb}
+use borrow.Author.Tests.{ltb-true, ltb-false, le-leb}
 use lib.Pow.{shl-shr}
 use Rattle.prefix.specs.Bits.{Bits, bits}
 use Rattle.prefix.specs.Prefix.{contains, common, trimmed, prefix_of}
 use Rattle.prefix.proofs.BitLaws.{length_bits, take_bits, bits_zero, trim_bits, common_word_less, common_word_full, word_at, word_past}
 use Rattle.prefix.proofs.Common.{common_sym, common_take, common_of_take}
-use Rattle.prefix.proofs.Tests.{contains_common, contains_of_take}
+use Rattle.prefix.proofs.Tests.{contains_of_take}
 use Rattle.prefix.proofs.Trimming.{trimmed_append, trimmed_all, trimmed_none, take_of_trimmed}
 use Rattle.prefix.specs.Addresses.{address_bits, ipv4_bits}
 use Rattle.prefix.specs.declared.Address.{Address}
@@ -31,6 +34,17 @@ module _ (x y : Address) where
 
   pub common_low : 64 ≤ same x.high y.high → common (address_bits x) (address_bits y) ≡ 64 + same x.low y.low
   common_low h = common_word_full 64 x.high y.high (bits 64 x.low) (bits 64 y.low) h
+
+  -- the high half decides, or agrees whole
+  pub common_halves : ((same x.high y.high < 64) × (common (address_bits x) (address_bits y) ≡ same x.high y.high))
+      ⊎ ((64 ≤ same x.high y.high) × (common (address_bits x) (address_bits y) ≡ 64 + same x.low y.low))
+  common_halves = go (ltb (same x.high y.high) 64) refl
+    where
+      go : (t : Bool) → ltb (same x.high y.high) 64 ≡ t
+          → ((same x.high y.high < 64) × (common (address_bits x) (address_bits y) ≡ same x.high y.high))
+          ⊎ ((64 ≤ same x.high y.high) × (common (address_bits x) (address_bits y) ≡ 64 + same x.low y.low))
+      go true e = let h = ltb-true (same x.high y.high) 64 e in inl (h, common_high h)
+      go false e = let h = ltb-false (same x.high y.high) 64 e in inr (h, common_low h)
 
 module _ (a : Address) where
   pub at_high : (i : ℕ) → i < 64 → get_or (address_bits a) i false ≡ get_or (bits 64 a.high) i false
@@ -111,22 +125,19 @@ ipv4_bit i u a h e = sym (get_or-take 32 (address_bits a) i false h) ∙ ap (λ 
 pub ipv4_trimmed : (n u : ℕ) (a r : Address) → take 32 (address_bits a) ≡ bits 32 u → address_bits r ≡ trimmed n (address_bits a) → take 32 (address_bits r) ≡ trimmed n (bits 32 u)
 ipv4_trimmed n u a r ea er = ap (take 32) er ∙ take_of_trimmed 32 n (address_bits a) ∙ ap (trimmed n) ea
 
--- ---- a prefix of at most 64 bits
+-- ---- a number that is Common where it is less than the width, and else no less than the width
 
-module _ (n : ℕ) (a x : Address) (h : n ≤ 64) where
-  short_64 : length (take n (address_bits a)) ≤ 64
-  short_64 = omega (arith, length-take-le n (address_bits a) (omega (arith, length_address a)))
+module _ (w r c n : ℕ) (near : r < w → r ≡ c) (far : w ≤ r → w ≤ c) (h : n ≤ w) where
+  pub leb_within : leb n r ≡ leb n c
+  leb_within = go (ltb r w) refl
+    where
+      go : (t : Bool) → ltb r w ≡ t → leb n r ≡ leb n c
+      go true e = ap (leb n) (near (ltb-true r w e))
+      go false e = let k = ltb-false r w e in let l = far k in le-leb n r (omega arith) ∙ sym (le-leb n c (omega arith))
 
-  first_half : take 64 (address_bits x) ≡ bits 64 x.high
-  first_half = take_at (bits 64 x.high) (bits 64 x.low) 64 (length_bits 64 x.high)
-
-  pub contains_high : contains (take n (address_bits a)) (address_bits x) ≡ leb n (same a.high x.high)
-  contains_high =
-      sym (contains_of_take 64 (take n (address_bits a)) (address_bits x) short_64) ∙ ap₂ contains (take_high a n h) first_half
-      ∙ contains_common n (bits 64 a.high) (bits 64 x.high) (rw length_bits h)
-
-  pub common_high_cap : common (address_bits x) (take n (address_bits a)) ≡ min n (same x.high a.high)
-  common_high_cap =
-      common_sym (address_bits x) (take n (address_bits a)) ∙ sym (common_of_take 64 (take n (address_bits a)) (address_bits x) short_64)
-      ∙ ap₂ common (take_high a n h) first_half ∙ common_take n (bits 64 a.high) (bits 64 x.high)
-      ∙ ap (min n) (common_sym (bits 64 a.high) (bits 64 x.high))
+  pub min_within : min n r ≡ min n c
+  min_within = go (ltb r w) refl
+    where
+      go : (t : Bool) → ltb r w ≡ t → min n r ≡ min n c
+      go true e = ap (min n) (near (ltb-true r w e))
+      go false e = let k = ltb-false r w e in let l = far k in min-eq_left (omega arith) ∙ sym (min-eq_left (omega arith))

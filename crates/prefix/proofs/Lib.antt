@@ -6,3 +6,4 @@ pub mod Trimming
 pub mod BitLaws
 pub mod AddressLaws
 mod Samples
+pub mod Overlaps

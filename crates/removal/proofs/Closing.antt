@@ -27,7 +27,7 @@ use Rattle.slots.proofs.ReadLaws.{read_up}
 use Rattle.slots.proofs.StoreLaws.{cache_child, cache_count}
 use Rattle.slots.proofs.KeptLaws.{kept_then, kept_same, kept_child, plain_fewer, count_size, count_limit, count_entries, count_past, count_plain}
 use Rattle.entries.specs.Caches.{entries, SoundEntries, Kept, Removes}
-use Rattle.entries.specs.Changed.{Slots, Changed, Linked}
+use Rattle.entries.specs.Changed.{InStore, Changed, Linked}
 use Rattle.removal.specs.Removal.{Tidy, Without, Gone}
 use Rattle.entries.proofs.Changing.{slots_kept}
 use Rattle.entries.proofs.Lows.{sound_low}
@@ -99,7 +99,7 @@ module _ {n k q : ℕ} (w : List ℕ) (lk : Slot n k) (e : q ≡ up_in w (2 * k)
     rest = λ p S. without_beside n k q S lk up (λ z. omega arith) (a.does (record { low = sound_low S; plain = p }));
   }
 
-pub gone_only : {n k : ℕ} {w u w' : List ℕ} → Slots w n → n ≡ 1 → Slot n k → Changed n w u (Linked n w k) (unlink (cache_of w) k) → w' ≡ put_child u 0 0 → Gone n w w' k
+pub gone_only : {n k : ℕ} {w u w' : List ℕ} → InStore w n → n ≡ 1 → Slot n k → Changed n w u (Linked n w k) (unlink (cache_of w) k) → w' ≡ put_child u 0 0 → Gone n w w' k
 gone_only {n} {k} {w} {u} {w'} has one lk a ew = record { kept = rw ew (kept_then a.kept (kept_child n u 0 (omega arith) room 0)); rest = λ p S. rest S }
   where
     room : Room u 0

@@ -17,7 +17,7 @@ use Rattle.slots.specs.Layout.{cell_word, up_in, cache_of, Plain}
 use Rattle.slots.specs.Stores.{put_entry, put_child, put_up}
 use Rattle.slots.proofs.ReadLaws.{read_entry, read_hop, read_child, read_branch, read_up}
 use Rattle.slots.proofs.KeptLaws.{kept_then}
-use Rattle.entries.specs.Changed.{Slots, Changed, Linked, Low}
+use Rattle.entries.specs.Changed.{InStore, Changed, Linked, Low}
 use Rattle.removal.specs.Removal.{Tidy, hung, branched}
 use Rattle.entries.proofs.Changing.{none_stored, child_stored, up_stored, branch_stored, entry_stored, changed, skipped}
 use Rattle.entries.proofs.Lows.{low_unlink, low_entry}
@@ -32,7 +32,7 @@ module _ {n : ℕ} {w : List ℕ} {c : Cache} (cell x : ℕ) where
   pub far_node : n < x / 2 → Changed n w w ((cell / 2 ≤ n) × (x / 2 ≤ n)) c
   far_node h = skipped (λ f. omega (arith, f))
 
-pub hangs : {n : ℕ} {w u w' : List ℕ} (cell x : ℕ) → Slots w n → cell / 2 ≤ n → x / 2 ≤ n → u ≡ put_child w cell x → w' ≡ put_up u x cell
+pub hangs : {n : ℕ} {w u w' : List ℕ} (cell x : ℕ) → InStore w n → cell / 2 ≤ n → x / 2 ≤ n → u ≡ put_child w cell x → w' ≡ put_up u x cell
     → Changed n w w' ((cell / 2 ≤ n) × (x / 2 ≤ n)) (hung (cache_of w) cell x)
 unfolding hung
 hangs {n} {w} {u} {w'} cell x has hc hx eu ew =
@@ -73,7 +73,7 @@ prunes {n} {w} {w'} {x} {q} cell more low ex eq a = record {
 pub long_entry : {n : ℕ} {w : List ℕ} {c : Cache} {len : ℕ} (s : ℕ) → 0 < s → s ≤ n → len ≡ word w (slot_word s 1) % 64 → 32 < len → Changed n w w (Plain w n) c
 long_entry s pos low e h = skipped (λ p. omega (arith, p.short s pos low))
 
-pub copies : {n : ℕ} {w w' : List ℕ} {len hop t : ℕ} (s a : ℕ) {A : List Bool} → Slots w n → t ≤ n → len ≡ word w (slot_word s 1) % 64 → len ≤ 32
+pub copies : {n : ℕ} {w w' : List ℕ} {len hop t : ℕ} (s a : ℕ) {A : List Bool} → InStore w n → t ≤ n → len ≡ word w (slot_word s 1) % 64 → len ≤ 32
     → A ≡ bits 32 (word w (slot_word s 0)) → bits 32 a ≡ A → hop ≡ word w (slot_word s 1) / 64 → w' ≡ put_entry w t a len hop
     → Changed n w w' (Plain w n) (set_entry (cache_of w) t ((cache_of w).entry s) ((cache_of w).hop s))
 copies {n} {w} {w'} {len} {hop} {t} s a has low el short eA ea eh ew =
@@ -116,7 +116,7 @@ branch_path : (c : Cache) (s t x y q m a b : ℕ) → a ≡ cell_of t false → 
     → set_up (set_branch_length (set_up (set_up (set_child (set_child (set_child c a x) (cell_of t true) y) q (branch_node t)) x a) y (cell_of t true)) t m) (branch_node t) q ≡ move_branch c s t
 branch_path c s t x y q m a b ea eb ex ey eq em = rw (ea, em) (branch_stores c s t x y q (ex ∙ ap c.child eb) ey eq)
 
-pub moves_branch : {n : ℕ} {w w' : List ℕ} {x y q m t : ℕ} (s : ℕ) → Slots w n → t ≤ n → x ≡ word w (cell_word (2 * s)) → x / 2 ≤ n
+pub moves_branch : {n : ℕ} {w w' : List ℕ} {x y q m t : ℕ} (s : ℕ) → InStore w n → t ≤ n → x ≡ word w (cell_word (2 * s)) → x / 2 ≤ n
     → y ≡ word w (cell_word (2 * s + 1)) → y / 2 ≤ n → q ≡ up_in w (2 * s + 1) → q / 2 ≤ n → m ≡ word w (slot_word s 7) % 64
     → w' ≡ branched w t x y q m → Changed n w w' (Tidy n w) (move_branch (cache_of w) s t)
 unfolding branched

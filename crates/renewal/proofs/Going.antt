@@ -1,7 +1,7 @@
 -- The pass from turn to turn, and what it has done at the end. Assumes nothing.
 use mathlib.Core.Path.{◌≡◌, refl, sym, ap, ◌∙◌, subst}
 use mathlib.Core.List.{List}
-use Prim.Native.Nat.{ℕ, ◌<◌}
+use Prim.Native.Nat.{ℕ}
 use native.Mathlib.Omega.{arith}
 use lib.ListN.{length, drop}
 use Rattle.sizes.specs.Sizes.{cache_need}
@@ -15,7 +15,7 @@ use Rattle.entries.specs.Caches.{entries, SoundEntries, Slot, entry_in, Kept}
 use Rattle.updates.specs.Updates.{update_of}
 use Rattle.updates.specs.declared.Update.{Update}
 use Rattle.renewal.specs.declared.Pass.{Pass}
-use Rattle.renewal.specs.Passes.{Within, Stepped, Right, RightAbove, Turned, Ready, Turns, start_pass, Going, Renewed, Passed}
+use Rattle.renewal.specs.Passes.{Stepped, Right, RightAbove, Turned, Ready, Turns, start_pass, Going, Renewed, Passed}
 use Rattle.renewal.proofs.Passing.{right_cache, right_removed, right_changed}
 
 pub going_start : {table w : List ℕ} {u : Update} {n : ℕ} → Shaped w → n ≡ entries_held w → Going table w w u (start_pass n)
@@ -56,9 +56,6 @@ going_on g s t z = record {
   size = z ∙ g.size;
   turned = λ R. let a = g.turned R in turned_on a (t (record { its_table = R.its_table; its_entries = a.sound; short = R.short; apart = a.apart R.apart }));
 }
-
-pub at_slot : {table w x : List ℕ} {u : Update} {p : Pass} → Going table w x u p → ¬ (p.at ≡ 0) → Within x p × (0 < p.at)
-at_slot g ne = (g.within, omega arith)
 
 -- every slot is done
 module _ (T : model.Table) (v : model.Update) (w : List ℕ) (S : SoundEntries w) (right : RightAbove T v w 0) where

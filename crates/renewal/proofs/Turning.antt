@@ -3,7 +3,7 @@ use mathlib.Core.Path.{◌≡◌, refl, sym, ap, ◌∙◌, subst}
 use mathlib.Core.Bool.{true, false, not}
 use mathlib.Core.List.Memᴰ
 use mathlib.Core.List.{List, map}
-use Prim.Native.Nat.{ℕ, suc, ◌+◌, ◌-◌, ◌/◌, ◌≤◌, ◌<◌}
+use Prim.Native.Nat.{ℕ, suc, ◌+◌, ◌-◌, ◌/◌, ◌<◌, min}
 use native.Mathlib.Decide.{ℕ_discrete}
 use native.Mathlib.Omega.{arith}
 use lib.ListN.{length}
@@ -18,38 +18,18 @@ use Rattle.lru_cache.proofs.Rings.{without_sub}
 use Rattle.lru_cache.proofs.Orders.{ring_order, order_all, order_distinct}
 use Rattle.lru_cache.proofs.Holding.{keep_others, slot_entry, entry_slot}
 use Rattle.sizes.specs.BothStores.{slot_word, word}
-use Rattle.slots.specs.Layout.{entries_held, cache_of, Shaped}
+use Rattle.slots.specs.Layout.{entries_held, cache_of}
 use Rattle.entries.specs.Caches.{entries, SoundEntries, Slot, entry_in, with_hop, rehopped, Kept, Removes, Rehops}
 use Rattle.renewal.specs.declared.Pass.{Pass}
-use Rattle.renewal.specs.Passes.{Within, Stepped, Right, RightAbove, RightApart, Turned, Drops, Keeps, next_pass}
+use Rattle.renewal.specs.Passes.{Within, Right, RightAbove, RightApart, Turned, Drops, Keeps, next_pass}
 use Rattle.pairs.proofs.Pairing.{held_entries}
 use Rattle.renewal.proofs.Passing.{leaves_prefix, fresh_prefix, rehop_cache, rehop_removed, rehop_changed, fewer_removed}
 
-shaped_after : {w w' : List ℕ} {held : ℕ} → Shaped w → Kept w w' held → length w' ≡ length w → held ≤ entries_held w → Shaped w'
-shaped_after s k size low = record {
-  legal = rw k.limit_kept s.legal;
-  enough = rw (k.limit_kept, size) s.enough;
-  entries_fit = omega (arith, k.count, k.limit_kept, s.entries_fit);
-}
-
 -- ---- it leaves
 
-module _ {w w' : List ℕ} {p : Pass} (h : Within w p × (0 < p.at)) (kept : Kept w w' (p.entries - 1)) where
+module _ {w w' : List ℕ} {p : Pass} (in_range : Within w p) (in_hand : 0 < p.at) (kept : Kept w w' (p.entries - 1)) where
   abbrev after : ℕ → Pass
   after a = record { at = a; entries = p.entries - 1; removed = p.removed + 1; changed = p.changed }
-
-  stepped : (a : ℕ) → length w' ≡ length w → a ≤ p.entries - 1 → a ≤ p.at → Stepped w w' p (after a)
-  stepped a size low less = record {
-    within = record {
-      shaped = shaped_after h.0.shaped kept size (omega (arith, h.0.count));
-      count = sym kept.count;
-      at_most = low;
-      few_removed = omega (arith, h.0.at_most, h.0.few_removed);
-      few_changed = omega (arith, h.0.few_changed);
-    };
-    kept = kept;
-    less = omega (arith, h.0.at_most);
-  }
 
   module _ (gone : SoundEntries w → Removes w w' p.at) (T : Table) (u : Update) (S : SoundEntries w) (lv : leaves T u (entry_in w p.at) ≡ true) where
     same_stay : keep (λ E. not (leaves T u E)) (entries w') ≡ keep (λ E. not (leaves T u E)) (entries w)
@@ -57,7 +37,7 @@ module _ {w w' : List ℕ} {p : Pass} (h : Within w p × (0 < p.at)) (kept : Kep
     same_stay = ap (keep (λ E. not (leaves T u E))) (gone S).holds.are_entries ∙ keep_others S.slots (λ E. not (leaves T u E)) p.at (rw lv)
 
     one_less : suc (length (entries w')) ≡ length (entries w)
-    one_less = omega (arith, held_entries S, held_entries (gone S).holds.sound, kept.count, h.0.count, h.0.at_most, h.1)
+    one_less = omega (arith, held_entries S, held_entries (gone S).holds.sound, kept.count, in_range.count, in_range.at_most, in_hand)
 
     drop_cache : refreshed T u (entries w') ≡ refreshed T u (entries w)
     unfolding refreshed
@@ -87,44 +67,17 @@ module _ {w w' : List ℕ} {p : Pass} (h : Within w p × (0 < p.at)) (kept : Kep
         moved : RightAbove T u w p.at → (s : ℕ) → (z : ℕ) × Slot w z × (p.at < z) × (entry_in w' s ≡ entry_in w z) → Right T u (entry_in w' s)
         moved right s (z, lz, hz, e) = subst (Right T u) (sym e) (right z lz hz)
 
-  pub dropped_last : length w' ≡ length w → p.entries - 1 < p.at → Stepped w w' p (after (p.entries - 1))
-  dropped_last size l = stepped (p.entries - 1) size (omega arith) (omega arith)
-
-  pub dropped : length w' ≡ length w → p.at ≤ p.entries - 1 → Stepped w w' p (after p.at)
-  dropped size l = stepped p.at size l (omega arith)
-
-  pub drops_last : (SoundEntries w → Removes w w' p.at) → p.entries - 1 < p.at → Drops w w' p (after (p.entries - 1))
-  drops_last gone l T u S lv = turned gone T u S lv (p.entries - 1) (λ s ls lt. absurd (omega (arith, kept.count, ls.1)))
-
-  pub drops : (SoundEntries w → Removes w w' p.at) → p.at ≤ p.entries - 1 → Drops w w' p (after p.at)
-  drops gone l T u S lv = turned gone T u S lv p.at (λ s ls lt. lt)
+  -- the pass goes on at the same slot, or at the last one left
+  pub drops : (SoundEntries w → Removes w w' p.at) → (low : ℕ) → low ≡ min p.at (p.entries - 1) → Drops w w' p (after low)
+  drops gone low is T u S lv = turned gone T u S lv low (λ s ls lt. omega (arith, is, kept.count, ls.1, lt))
 
 -- ---- it stays
-
-next_stepped : {w w' : List ℕ} {p q : Pass} {d : ℕ} → Within w p × (0 < p.at) → Kept w w' (entries_held w) → length w' ≡ length w → d ≤ 1 → q ≡ next_pass p d → Stepped w w' p q
-next_stepped {w} {w'} {p} {q} {d} h kept size small e = rw e (record {
-  within = record {
-    shaped = shaped_after h.0.shaped kept size (omega arith);
-    count = h.0.count ∙ sym kept.count;
-    at_most = omega (arith, h.0.at_most);
-    few_removed = h.0.few_removed;
-    few_changed = omega (arith, h.0.few_changed, h.1);
-  };
-  kept = record { limit_kept = kept.limit_kept; count = kept.count ∙ sym h.0.count; past_kept = kept.past_kept };
-  less = omega (arith, h.1);
-})
-
-same_kept : (w : List ℕ) → Kept w w (entries_held w)
-same_kept w = record { limit_kept = refl; count = refl; past_kept = refl }
 
 hop_word : (w : List ℕ) (k : ℕ) → (entry_in w k).hop ≡ word w (slot_word k 1) / 64
 unfolding cache_of
 hop_word w k = refl
 
-module _ {w : List ℕ} {p q : Pass} (h : Within w p × (0 < p.at)) (e : q ≡ next_pass p 0) where
-  pub left_alone : Stepped w w p q
-  left_alone = next_stepped h (same_kept w) refl (omega arith) e
-
+module _ {w : List ℕ} {p q : Pass} (in_range : Within w p) (in_hand : 0 < p.at) (e : q ≡ next_pass p 0) where
   pub right_already : (T : Table) (u : Update) → SoundEntries w → Right T u (entry_in w p.at) → Turned T u w w p q
   right_already T u S now = rw e (record {
     sound = S;
@@ -145,10 +98,7 @@ module _ {w : List ℕ} {p q : Pass} (h : Within w p × (0 < p.at)) (e : q ≡ n
   pub high_hop : (hop : ℕ) → 65535 < hop → Keeps w w p hop q
   high_hop hop l T u S stays new small = absurd (omega arith)
 
-module _ {w w' : List ℕ} {p q : Pass} (h : Within w p × (0 < p.at)) (e : q ≡ next_pass p 1) (kept : Kept w w' (entries_held w)) where
-  pub hop_given : length w' ≡ length w → Stepped w w' p q
-  hop_given size = next_stepped h kept size (omega arith) e
-
+module _ {w w' : List ℕ} {p q : Pass} (in_range : Within w p) (in_hand : 0 < p.at) (e : q ≡ next_pass p 1) (kept : Kept w w' (entries_held w)) where
   module _ (hop old : ℕ) (is : old ≡ word w (slot_word p.at 1) / 64) (differs : ¬ (old ≡ hop)) (gives : SoundEntries w → Rehops w w' p.at hop)
       (T : Table) (u : Update) (S : SoundEntries w) (stays : leaves T u (entry_in w p.at) ≡ false) (new : (fresh T (entry_in w p.at)).hop ≡ hop) where
     same_prefix : (i : ℕ) → (with_hop w p.at hop i).prefix ≡ (entry_in w i).prefix
@@ -172,7 +122,7 @@ module _ {w w' : List ℕ} {p q : Pass} (h : Within w p × (0 < p.at)) (e : q �
         let o = ring_order S.slots.ring in
         ap (λ (c : Cache). suc (changed T u c)) (gives S).holds.are_entries
         ∙ rehop_changed T u (entry_in w) (with_hop w p.at hop) same_prefix p.at (λ i ne. rw (ne_eqb i p.at ne)) stays (λ z. differs (is ∙ sym (hop_word w p.at) ∙ z ∙ new))
-        (rw (eq-eqb p.at p.at refl) (sym new)) (lru.order (entries_held w) (cache_of w)) (order_distinct o) (order_all o p.at (h.1, omega (arith, h.0.at_most, h.0.count)))
+        (rw (eq-eqb p.at p.at refl) (sym new)) (lru.order (entries_held w) (cache_of w)) (order_distinct o) (order_all o p.at (in_hand, omega (arith, in_range.at_most, in_range.count)))
 
     now_right : Right T u (entry_in w' p.at)
     now_right = rw (gives S).here (record {

@@ -2,7 +2,6 @@
 use Rattle.std.specs.Prelude.{◌≡◌, Bool, true, false, ◌&&◌, List, ℕ, ◌+◌, ◌-◌, ◌≤◌, ◌<◌, length, take}
 use Rattle.prefix.specs.Prefix.{overlap, same}
 use Rattle.prefix.specs.Addresses.{ipv4_bits}
-use Rattle.prefix.specs.declared.Address.{Address}
 use Rattle.sizes.specs.Sizes.{largest_limit}
 use Rattle.model.specs.Lists.{◌∈◌}
 use Rattle.model.specs.Routes as model
@@ -77,17 +76,17 @@ pub record Ready (table w : List ℕ) (u : Update) : Type 0 where
 abbrev pub Turns : List ℕ → List ℕ → List ℕ → Update → Pass → Pass → Type 0
 Turns table w w' u p q = Ready table w u → Turned (routes table) (update_of u) w w' p q
 
--- the first n bits of a overlap p
-abbrev pub Touches : Prefix → Address → ℕ → Bool → Type 0
-Touches p a n r = n ≤ 32 → p.length ≤ 32 → r ≡ overlap (take n (ipv4_bits a)) (take p.length (ipv4_bits p.address))
+-- the prefix of an entry overlaps p
+abbrev pub Touches : Prefix → Prefix → Bool → Type 0
+Touches p held r = held.length ≤ 32 → p.length ≤ 32 → r ≡ overlap (take held.length (ipv4_bits held.address)) (take p.length (ipv4_bits p.address))
 
--- the first n bits of a are those of p
-abbrev pub Alike : Prefix → Address → ℕ → Bool → Type 0
-Alike p a n r = n ≤ 32 → p.length ≤ 32 → r ≡ same (take p.length (ipv4_bits p.address)) (take n (ipv4_bits a))
+-- the prefix of an entry is p
+abbrev pub Alike : Prefix → Prefix → Bool → Type 0
+Alike p held r = held.length ≤ 32 → p.length ≤ 32 → r ≡ same (take p.length (ipv4_bits p.address)) (take held.length (ipv4_bits held.address))
 
--- they were "just withdrawn"
-abbrev pub Withdrawn : Update → Address → ℕ → Bool → Type 0
-Withdrawn u a n r = n ≤ 32 → u.prefix.length ≤ 32 → r ≡ (withdraws (action_of u.action) && same (prefix_of_update u) (take n (ipv4_bits a)))
+-- it was "just withdrawn"
+abbrev pub Withdrawn : Update → Prefix → Bool → Type 0
+Withdrawn u held r = held.length ≤ 32 → u.prefix.length ≤ 32 → r ≡ (withdraws (action_of u.action) && same (prefix_of_update u) (take held.length (ipv4_bits held.address)))
 
 -- ---- the whole pass
 

@@ -5,10 +5,10 @@ use native.Mathlib.Omega.{arith}
 use mathlib.Core.Path.{◌≡◌, refl, ap, ◌∙◌}
 use mathlib.Core.Bool.{true, not}
 use mathlib.Core.List.{List, [], ◌∷◌, ◌++◌, append_assoc}
-use mathlib.Core.Option.{some}
 use lib.ListN.{length, length-append}
 use lib.Dec.{ltb, eqb}
 use borrow.Author.Tests.{le-leb, lt-ltb, ltb-true, eq-eqb, not-true}
+use Rattle.std.specs.Prelude.{Some}
 use Rattle.answers.specs.Text.{text}
 use Rattle.script.specs.Lines.{digit, digits, value_from, number, onto, parts, both, numbers, four, address, only, call, fields, line_of, largest, space, point}
 use Rattle.answers.specs.Answers.{decimal_in, decimal, said, dotted}
@@ -58,11 +58,11 @@ unfolding decimal_in
 some_digit k n = by_cases (ltb n 10) (λ e. rw e (omega arith)) (λ e. rw (e, length-append) (omega arith))
 
 -- a printed number is read back, where it is not above the most
-pub number_is_read : (most n : ℕ) → n < 2 ^ 32 → n ≤ most → number most (decimal n) ≡ some n
+pub number_is_read : (most n : ℕ) → n < 2 ^ 32 → n ≤ most → number most (decimal n) ≡ Some n
 unfolding decimal
 number_is_read most n h k =
     let v : value_from 0 (decimal_in 10 n) ≡ n = decimal_value 10 n (omega arith) (omega arith) in
-    number_of_digits most (decimal_in 10 n) (some_digit 9 n) (decimal_digits 10 n) (omega arith) ∙ ap some v
+    number_of_digits most (decimal_in 10 n) (some_digit 9 n) (decimal_digits 10 n) (omega arith) ∙ ap Some v
 
 -- ---- addresses
 
@@ -94,15 +94,15 @@ octets a =
     simp append_assoc
     (rw (parts_of_decimal point (a / 2 ^ 24) _ k, parts_of_decimal point (a / 2 ^ 16 % 256) _ k, parts_of_decimal point (a / 2 ^ 8 % 256) _ k, parts_last point (decimal (a % 256)) (decimal_free point (a % 256) k)))
 
-octet_is_read : (n : ℕ) → n < 256 → number 255 (decimal n) ≡ some n
+octet_is_read : (n : ℕ) → n < 256 → number 255 (decimal n) ≡ Some n
 octet_is_read n h = number_is_read 255 n (omega arith) (omega arith)
 
 -- a printed address is read back
-pub address_is_read : (a : ℕ) → a < 2 ^ 32 → address (dotted a) ≡ some a
+pub address_is_read : (a : ℕ) → a < 2 ^ 32 → address (dotted a) ≡ Some a
 unfolding address numbers both four
 address_is_read a h =
     rw (octets a, octet_is_read (a / 2 ^ 24) (omega arith), octet_is_read (a / 2 ^ 16 % 256) (omega arith), octet_is_read (a / 2 ^ 8 % 256) (omega arith), octet_is_read (a % 256) (omega arith))
-    (ap some (omega arith))
+    (ap Some (omega arith))
 
 -- ---- lines
 

@@ -1,3 +1,4 @@
+pub mod Choices
 pub mod Splitting
 pub mod LineEnds
 pub mod RunLaws

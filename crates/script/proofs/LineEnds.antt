@@ -1,17 +1,23 @@
 -- The line from a place of a block on: its first byte, and the line from a later place. Assumes nothing.
-use Prim.Native.Nat.{ℕ, zero, suc, ◌+◌, ◌-◌, ◌^◌, ◌≤◌, ◌<◌}
+use Prim.Native.Nat.{ℕ, zero, suc, ◌+◌, ◌-◌, ◌≤◌, ◌<◌}
 use native.Mathlib.Numerals.{add-one}
 use native.Mathlib.Omega.{arith}
-use mathlib.Core.Path.{◌≡◌, refl, sym, ◌∙◌, ap}
-use mathlib.Core.Bool.{Bool, true, false, not, true≢false}
+use mathlib.Core.Path.{◌≡◌, refl, sym, ◌∙◌}
+use mathlib.Core.Bool.{true, false}
 use mathlib.Core.List.{List, [], ◌∷◌}
 use lib.ListN.{length, drop, get_or, drop_of_length-le, length-drop}
-use lib.Seq.{drop-cons, drop-drop}
+use lib.Seq.{drop-cons, drop-drop, take-length}
 use lib.Dec.{eqb}
+use Rattle.std.specs.Prelude.{Some, None, slice_range}
 use borrow.Author.Tests.{eq-eqb, ne_eqb, eqb-true, eqb-false}
 use Rattle.script.specs.Blocks.{before, feed, line_from, line_end}
-use Rattle.script.specs.Reading.{over, marked, Onward}
+use Rattle.script.specs.Reading.{over, marked, past}
+use Rattle.script.proofs.Choices.{picked, not_picked}
 use Rattle.answers.proofs.Booleans.{by_cases}
+
+-- what a slice holds from a place on
+pub rest_is : (l t : List ℕ) (at : ℕ) → t ≡ slice_range l at (length l) → t ≡ drop at l
+rest_is l t at is = is ∙ rw (← length-drop at l) (take-length (drop at l))
 
 -- what stands before a mark, from a later place on
 pub drop_before : (m n : ℕ) (t : List ℕ) → n ≤ length (before m t) → drop n (before m t) ≡ before m (drop n t)
@@ -48,25 +54,7 @@ module _ (l : List ℕ) (at : ℕ) where
         let e : length (line_from l (at + n)) ≡ length (line_from l at) - n = rw (line_later, length-drop) in
         omega arith
 
-  -- ---- the answers of `is_over` and `is_mark`
-
-  pub onward_byte : (b : Bool) (size : ℕ) → size < 2 ^ 64 → at < size → Onward b at
-  onward_byte b size small inside h = omega (arith, small, inside)
-
-  pub onward_over : Onward (not true) at
-  onward_over h = absurd (true≢false (sym h))
-
-  pub onward_end : Onward false at
-  onward_end h = absurd (true≢false (sym h))
-
-  pub after_mark : (b : Bool) → Onward b at → b ≡ true → at + 1 < 2 ^ 64
-  after_mark b go h = go h
-
-  pub after_two : (b : Bool) → Onward b (at + 1) → b ≡ true → at + 2 < 2 ^ 64
-  after_two b go h = omega (arith, go h)
-
-  pub after_byte : (b : Bool) → Onward (not b) at → b ≡ false → at + 1 < 2 ^ 64
-  after_byte b go h = go (ap not h)
+  -- ---- the answers of `is_over`
 
   pub over_at_end : length l ≤ at → true ≡ over (line_from l at)
   unfolding over
@@ -85,10 +73,26 @@ module _ (l : List ℕ) (at : ℕ) where
       eqb_is_not : eqb (get_or l at 0) feed ≡ false → get_or l at 0 ≡ feed → ⊥
       eqb_is_not e = eqb-false _ _ e
 
-  pub marked_at_end : (mark : ℕ) → length l ≤ at → false ≡ marked mark (drop at l)
-  unfolding marked
-  marked_at_end mark h = rw (drop_of_length-le l h)
+-- ---- the answers of `past`, and what they tell
 
-  pub marked_at : (mark : ℕ) → at < length l → eqb (get_or l at 0) mark ≡ marked mark (drop at l)
-  unfolding marked
-  marked_at mark inside = rw (drop-cons l at 0 inside)
+module _ (mark : ℕ) (l : List ℕ) (at : ℕ) where
+  pub past_end : length l ≤ at → None ≡ past mark l at
+  unfolding past marked
+  past_end h = rw (drop_of_length-le l h)
+
+  module _ (inside : at < length l) where
+    pub past_mark : get_or l at 0 ≡ mark → Some (at + 1) ≡ past mark l at
+    unfolding past marked
+    past_mark h = rw (drop-cons l at 0 inside, eq-eqb _ _ h)
+
+    pub past_other : (get_or l at 0 ≡ mark → ⊥) → None ≡ past mark l at
+    unfolding past marked
+    past_other h = rw (drop-cons l at 0 inside, ne_eqb _ _ h)
+
+  pub mark_there : {i : ℕ} → Some i ≡ past mark l at → (marked mark (drop at l) ≡ true) × (i ≡ at + 1)
+  unfolding past
+  mark_there h = picked (marked mark (drop at l)) (at + 1) (sym h)
+
+  pub no_mark_there : None ≡ past mark l at → marked mark (drop at l) ≡ false
+  unfolding past
+  no_mark_there h = not_picked (marked mark (drop at l)) (at + 1) (sym h)

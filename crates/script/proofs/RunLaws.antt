@@ -4,9 +4,9 @@ use native.Mathlib.Omega.{arith}
 use mathlib.Core.Path.{◌≡◌, refl, sym}
 use mathlib.Core.Bool.{true, false, true≢false}
 use mathlib.Core.List.{List, [], ◌∷◌}
-use mathlib.Core.Option.{none, some}
 use lib.ListN.{length, drop}
 use lib.Dec.{eqb}
+use Rattle.std.specs.Prelude.{Some, None}
 use Rattle.script.specs.Lines.{digit, digits, number, onto, parts, both, numbers}
 use Rattle.script.specs.Blocks.{before}
 use Rattle.script.specs.Reading.{run, over, marked, closed}
@@ -72,26 +72,26 @@ module _ (m : ℕ) (small : m < 48) where
       (λ d. let k : marked m (behind t) ≡ true = rw d at h in rw (no_mark b m d small, d, parts_marked t k))
       (λ d. let k : eqb b m ≡ true = rw d at h in rw (k, d))
 
-  number_not_digits : (most : ℕ) (x : List ℕ) → digits x ≡ false → number most x ≡ none
+  number_not_digits : (most : ℕ) (x : List ℕ) → digits x ≡ false → number most x ≡ None
   unfolding number
   number_not_digits most [] h = refl
   number_not_digits most (b ∷ x) h = rw h
 
-  numbers_first : (most : ℕ) (t : List ℕ) → number most (before m t) ≡ none → numbers most (parts m t) ≡ none
+  numbers_first : (most : ℕ) (t : List ℕ) → number most (before m t) ≡ None → numbers most (parts m t) ≡ None
   unfolding numbers both
   numbers_first most t h = let (ps, is) = parts_first m t in rw (is, h)
 
-  pub numbers_other : (most : ℕ) (t : List ℕ) → closed m (behind t) ≡ false → numbers most (parts m t) ≡ none
+  pub numbers_other : (most : ℕ) (t : List ℕ) → closed m (behind t) ≡ false → numbers most (parts m t) ≡ None
   numbers_other most t h = numbers_first most t (number_not_digits most (before m t) (first_not_digits t h))
 
   -- no digit, or a value too large
-  pub numbers_none : (most : ℕ) (t : List ℕ) → number most (run t) ≡ none → numbers most (parts m t) ≡ none
+  pub numbers_none : (most : ℕ) (t : List ℕ) → number most (run t) ≡ None → numbers most (parts m t) ≡ None
   numbers_none most t h =
       by_cases (closed m (behind t))
       (λ c. numbers_first most t (rw (first_is_run t c) h))
       (λ c. numbers_other most t c)
 
-  pub numbers_over : (most : ℕ) (t : List ℕ) → over (behind t) ≡ true → numbers most (parts m t) ≡ both (number most (run t)) (some [])
+  pub numbers_over : (most : ℕ) (t : List ℕ) → over (behind t) ≡ true → numbers most (parts m t) ≡ both (number most (run t)) (Some [])
   unfolding numbers
   numbers_over most t h = rw (parts_over t h)
 

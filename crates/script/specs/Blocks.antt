@@ -1,9 +1,8 @@
 -- The lines of a block of bytes: where one ends, and what is read of it. Assumes nothing.
-use Rattle.std.specs.Prelude.{ℕ, ◌+◌, ◌^◌, ◌≤◌, ◌<◌, ◌≡◌, cond, List, [], ◌∷◌, length, drop, eqb}
+use Rattle.std.specs.Prelude.{ℕ, ◌+◌, ◌^◌, ◌≤◌, ◌<◌, ◌≡◌, cond, List, [], ◌∷◌, length, drop, eqb, Option, MatchOption}
 use Prim.Native.Char.{code}
 use Rattle.script.specs.Lines.{line_of}
 use Rattle.script.specs.declared.Read.{Read}
-use Rattle.script.specs.declared.Read.TheVariants.{Line, None}
 
 -- the bytes before the first mark, or all of them
 unfoldable pub before : ℕ → List ℕ → List ℕ
@@ -21,10 +20,13 @@ line_from l at = before feed (drop at l)
 unfoldable pub line_end : List ℕ → ℕ → ℕ
 line_end l at = at + length (line_from l at)
 
--- what the line from a place on asks for, and where its line feed is, with a place after it; or there is no line feed any more
-abbrev pub ReadTo : List ℕ → ℕ → Read → Type 0
-ReadTo l at (Line line feed) = (feed ≡ line_end l at) × (feed < length l) × (line ≡ line_of (line_from l at)) × (feed + 1 < 2 ^ 64)
-ReadTo l at None = length l ≤ line_end l at
+-- what the line from a place on asks for, and where its line feed is, with a place after it
+pub record EndedLine (l : List ℕ) (at : ℕ) (r : Read) : Type 0 where
+  pub its_feed : r.feed ≡ line_end l at
+  pub inside : r.feed < length l
+  pub its_line : r.line ≡ line_of (line_from l at)
+  pub passable : r.feed + 1 < 2 ^ 64
 
-pub record LineRead (l : List ℕ) (at : ℕ) (r : Read) : Type 0 where
-  pub is : ReadTo l at r
+-- the line from a place on, or there is no line feed any more
+pub record LineRead (l : List ℕ) (at : ℕ) (r : Option Read) : Type 0 where
+  pub is : MatchOption r (length l ≤ line_end l at) (EndedLine l at)

@@ -4,9 +4,8 @@
 -- another form, empty or too long, an octet above 255 or a number above 4,294,967,295 prints `bad` once."
 -- A field is what stands between two spaces, or beside one. An empty field is no number and no address, so a leading, a
 -- doubled and a trailing space are bad by themselves. Assumes nothing.
-use Rattle.std.specs.Prelude.{ℕ, ◌+◌, ◌-◌, ◌*◌, Bool, true, false, cond, ◌&&◌, List, [], ◌∷◌, length, leb, eqb}
+use Rattle.std.specs.Prelude.{ℕ, ◌+◌, ◌-◌, ◌*◌, Bool, true, false, cond, ◌&&◌, List, [], ◌∷◌, length, leb, eqb, Option, Some, None}
 use Prim.Native.Char.{code}
-use Rattle.std.proofs.Math.Option.{Option, none, some}
 use Rattle.script.specs.declared.Line.{Line}
 use Rattle.script.specs.declared.Line.TheVariants.{Announce, Withdraw, Look, Bad}
 
@@ -26,8 +25,8 @@ value_from v (b ∷ l) = value_from (v * 10 + (b - code "0")) l
 
 -- digits, at least one, of a value that is at most `most`
 unfoldable pub number : ℕ → List ℕ → Option ℕ
-number most [] = none
-number most (b ∷ l) = cond (digits (b ∷ l) && leb (value_from 0 (b ∷ l)) most) (some (value_from 0 (b ∷ l))) none
+number most [] = None
+number most (b ∷ l) = cond (digits (b ∷ l) && leb (value_from 0 (b ∷ l)) most) (Some (value_from 0 (b ∷ l))) None
 
 -- ---- parts
 
@@ -41,13 +40,13 @@ parts mark [] = [] ∷ []
 parts mark (b ∷ l) = cond (eqb b mark) ([] ∷ parts mark l) (onto b (parts mark l))
 
 unfoldable pub both : Option ℕ → Option (List ℕ) → Option (List ℕ)
-both none ns = none
-both (some n) none = none
-both (some n) (some ns) = some (n ∷ ns)
+both None ns = None
+both (Some n) None = None
+both (Some n) (Some ns) = Some (n ∷ ns)
 
 -- the numbers that the parts are, if each is one
 unfoldable pub numbers : ℕ → List (List ℕ) → Option (List ℕ)
-numbers most [] = some []
+numbers most [] = Some []
 numbers most (p ∷ ps) = both (number most p) (numbers most ps)
 
 -- ---- lines
@@ -66,13 +65,13 @@ point = code "."
 
 -- the first octet is highest
 unfoldable pub four : Option (List ℕ) → Option ℕ
-four none = none
-four (some []) = none
-four (some (a ∷ [])) = none
-four (some (a ∷ b ∷ [])) = none
-four (some (a ∷ b ∷ c ∷ [])) = none
-four (some (a ∷ b ∷ c ∷ d ∷ [])) = some (((a * 256 + b) * 256 + c) * 256 + d)
-four (some (a ∷ b ∷ c ∷ d ∷ e ∷ ns)) = none
+four None = None
+four (Some []) = None
+four (Some (a ∷ [])) = None
+four (Some (a ∷ b ∷ [])) = None
+four (Some (a ∷ b ∷ c ∷ [])) = None
+four (Some (a ∷ b ∷ c ∷ d ∷ [])) = Some (((a * 256 + b) * 256 + c) * 256 + d)
+four (Some (a ∷ b ∷ c ∷ d ∷ e ∷ ns)) = None
 
 unfoldable pub address : List ℕ → Option ℕ
 address field = four (numbers 255 (parts point field))
@@ -85,12 +84,12 @@ only letter (b ∷ c ∷ l) = false
 
 -- by the first field, the address and the numbers after it
 unfoldable pub call : List ℕ → Option ℕ → Option (List ℕ) → Line
-call word none ns = Bad
-call word (some a) none = Bad
-call word (some a) (some []) = cond (only (code "L") word) (Look a) Bad
-call word (some a) (some (n ∷ [])) = cond (only (code "W") word) (Withdraw a n) Bad
-call word (some a) (some (n ∷ h ∷ [])) = cond (only (code "A") word) (Announce a n h) Bad
-call word (some a) (some (n ∷ h ∷ x ∷ ns)) = Bad
+call word None ns = Bad
+call word (Some a) None = Bad
+call word (Some a) (Some []) = cond (only (code "L") word) (Look a) Bad
+call word (Some a) (Some (n ∷ [])) = cond (only (code "W") word) (Withdraw a n) Bad
+call word (Some a) (Some (n ∷ h ∷ [])) = cond (only (code "A") word) (Announce a n h) Bad
+call word (Some a) (Some (n ∷ h ∷ x ∷ ns)) = Bad
 
 unfoldable pub fields : List (List ℕ) → Line
 fields [] = Bad

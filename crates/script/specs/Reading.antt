@@ -1,13 +1,10 @@
 -- What the functions of the reader answer at a place of a block. Assumes nothing.
-use Rattle.std.specs.Prelude.{ℕ, ◌+◌, ◌^◌, ◌≤◌, ◌<◌, ◌≡◌, Bool, true, false, cond, List, [], ◌∷◌, length, drop, eqb, ltb}
-use Rattle.std.proofs.Math.Option.{Option, none, some}
+use Rattle.std.specs.Prelude.{ℕ, ◌+◌, ◌≤◌, ◌≡◌, Bool, true, false, cond, List, [], ◌∷◌, length, drop, eqb, ltb, Option, Some, None, MatchOption}
 use Rattle.script.specs.Blocks.{before, line_from, line_end}
 use Rattle.script.specs.Lines.{digit, number, parts, both, numbers, address, call, space, point}
 use Rattle.script.specs.declared.Found.{Found}
-use Rattle.script.specs.declared.Found.TheVariants.{Number, Nothing}
 use Rattle.script.specs.declared.Line.{Line}
-use Rattle.script.specs.declared.Next.{Next}
-use Rattle.script.specs.declared.Next.TheVariants.{At, None}
+use Rattle.script.specs.declared.Line.TheVariants.{Bad}
 use Rattle.script.specs.declared.Seen.{Seen}
 
 -- ---- numbers
@@ -17,12 +14,12 @@ unfoldable pub run : List ℕ → List ℕ
 run [] = []
 run (b ∷ l) = cond (digit b) (b ∷ run l) []
 
-unfoldable pub ended : Option ℕ → ℕ → Found
-ended none end = Nothing
-ended (some v) end = Number v end
+unfoldable pub ended : Option ℕ → ℕ → Option Found
+ended None end = None
+ended (Some v) end = Some (record { value = v; end = end })
 
 -- the number of the digits from a place on, and the place after them
-unfoldable pub number_at : ℕ → List ℕ → ℕ → Found
+unfoldable pub number_at : ℕ → List ℕ → ℕ → Option Found
 number_at most l at = ended (number most (run (drop at l))) (at + length (run (drop at l)))
 
 -- ---- what follows
@@ -35,9 +32,9 @@ unfoldable pub marked : ℕ → List ℕ → Bool
 marked mark [] = false
 marked mark (b ∷ l) = eqb b mark
 
--- where a byte is, there is a place after it
-abbrev pub Onward : Bool → ℕ → Type 0
-Onward there at = there ≡ true → at + 1 < 2 ^ 64
+-- the place after a mark, where it is there
+unfoldable pub past : ℕ → List ℕ → ℕ → Option ℕ
+past mark l at = cond (marked mark (drop at l)) (Some (at + 1)) None
 
 -- a part is over, or its mark follows
 unfoldable pub closed : ℕ → List ℕ → Bool
@@ -56,48 +53,45 @@ field_end l at = at + length (before space (line_from l at))
 
 -- none, or one number
 pub data Few : Option (List ℕ) → Type 0 where
-  few_none : Few none
-  few_one : {n : ℕ} → Few (some (n ∷ []))
+  few_none : Few None
+  few_one : {n : ℕ} → Few (Some (n ∷ []))
 
 -- one octet with a point after it, and the place after the point
-pub record OneOctet (l : List ℕ) (at a i : ℕ) : Type 0 where
-  pub small : a ≤ 255
-  pub others : octets (line_from l at) ≡ both (some a) (octets (line_from l i))
-  pub same_line : line_end l i ≡ line_end l at
-  pub same_field : field_end l i ≡ field_end l at
+pub record OneOctet (l : List ℕ) (at : ℕ) (r : Found) : Type 0 where
+  pub small : r.value ≤ 255
+  pub others : octets (line_from l at) ≡ both (Some r.value) (octets (line_from l r.end))
+  pub same_line : line_end l r.end ≡ line_end l at
+  pub same_field : field_end l r.end ≡ field_end l at
 
-pub record OctetRead (l : List ℕ) (at : ℕ) (r : Found) : Type 0 where
-  pub one : (a i : ℕ) → r ≡ Number a i → OneOctet l at a i
-  pub fails : r ≡ Nothing → Few (octets (line_from l at))
+pub record OctetRead (l : List ℕ) (at : ℕ) (r : Option Found) : Type 0 where
+  pub is : MatchOption r (Few (octets (line_from l at))) (OneOctet l at)
 
 -- four octets, and the place after them: they are the address if a space or the end of the line is there
-pub record OneAddress (l : List ℕ) (at a end : ℕ) : Type 0 where
-  pub its_address : address (before space (line_from l at)) ≡ cond (closed space (line_from l end)) (some a) none
-  pub its_end : closed space (line_from l end) ≡ true → end ≡ field_end l at
-  pub same_line : line_end l end ≡ line_end l at
+pub record OneAddress (l : List ℕ) (at : ℕ) (r : Found) : Type 0 where
+  pub its_address : address (before space (line_from l at)) ≡ cond (closed space (line_from l r.end)) (Some r.value) None
+  pub its_end : closed space (line_from l r.end) ≡ true → r.end ≡ field_end l at
+  pub same_line : line_end l r.end ≡ line_end l at
 
-pub record AddressRead (l : List ℕ) (at : ℕ) (r : Found) : Type 0 where
-  pub one : (a end : ℕ) → r ≡ Number a end → OneAddress l at a end
-  pub fails : r ≡ Nothing → address (before space (line_from l at)) ≡ none
+pub record AddressRead (l : List ℕ) (at : ℕ) (r : Option Found) : Type 0 where
+  pub is : MatchOption r (address (before space (line_from l at)) ≡ None) (OneAddress l at)
 
 -- ---- a line feed
 
 -- the first line feed at or after a place
-unfoldable pub feed_at : List ℕ → ℕ → Next
-feed_at l from = cond (ltb (line_end l from) (length l)) (At (line_end l from)) None
-
--- there is a place after it
-abbrev pub Passable : Next → Type 0
-Passable (At feed) = feed + 1 < 2 ^ 64
-Passable None = Unit {0}
+unfoldable pub feed_at : List ℕ → ℕ → Option ℕ
+feed_at l from = cond (ltb (line_end l from) (length l)) (Some (line_end l from)) None
 
 -- ---- a line
 
 -- the letter, the address, and the numbers after it
 abbrev pub lettered : ℕ → ℕ → Option (List ℕ) → Line
-lettered letter a ns = call (letter ∷ []) (some a) ns
+lettered letter a ns = call (letter ∷ []) (Some a) ns
 
 -- the line is read, up to a place before its line feed or at it
 pub record SeenTo (l : List ℕ) (at : ℕ) (line : Line) (seen : Seen) : Type 0 where
   pub its_line : seen.line ≡ line
   pub same_line : line_end l seen.to ≡ line_end l at
+
+-- so is a call; any other line is bad
+pub record CallSeen (l : List ℕ) (at : ℕ) (line : Line) (r : Option Seen) : Type 0 where
+  pub is : MatchOption r (line ≡ Bad) (SeenTo l at line)

@@ -20,38 +20,28 @@ use Rattle.trie.specs.Walk.{length_from}
 use Rattle.trie.specs.Routes.{routes_of}
 use Rattle.trie.proofs.Holding.{in_held}
 use Rattle.trie.proofs.Looking.{descent_best, descent_match, descent_drop, descent_examined, descent_new}
+use Rattle.std.specs.Prelude.{Option, None, Some}
 use Rattle.sizes.specs.BothStores.{slot_word, word}
 use Rattle.nodes.specs.Layout.{nodes_of, trie_of, numbered}
-use Rattle.nodes.specs.Headers.{HeaderRead}
-use Rattle.nodes.specs.declared.Shape.{Shape}
-use Rattle.nodes.specs.declared.Shape.TheVariants.{Broken}
 use Rattle.nodes.proofs.Coding.{numbered_node, none_numbered}
 use Rattle.table.specs.Tables.{routes, SoundTable}
 use Rattle.table.specs.Stops.{Stopped, stop_of}
 use Rattle.table.specs.declared.Stop.{Stop}
 use Rattle.table.proofs.Reading.{own_length, mark_hop}
-use Rattle.table.proofs.Shapes.{shape_broken}
-use Rattle.search.specs.Matches.{found_for, Matched}
+use Rattle.search.specs.Matches.{found_for}
 use Rattle.search.specs.Looks.{found_at, Length, Answered}
-use Rattle.search.specs.declared.Answer.{Answer}
-use Rattle.search.specs.declared.Found.{Found}
-use Rattle.search.specs.declared.Found.TheVariants.{Match, Nothing}
+use Rattle.search.specs.declared.Match.{Match}
 
 -- ---- a node as a match
 
 module _ (w : List ℕ) (p mark : ℕ) (pos : 0 < p) (is-mark : mark ≡ word w (slot_word p 2)) where
-  pub matched_none : (own : ℕ) → mark ≡ 0 → Nothing ≡ found_at ((trie_of w).hop (p - 1)) own
+  pub matched_none : (own : ℕ) → mark ≡ 0 → None ≡ found_at ((trie_of w).hop (p - 1)) own
   unfolding found_at
   matched_none own z = rw (mark_hop w p mark pos is-mark, z, none_numbered)
 
-  pub matched_some : (own own' : ℕ) → ¬ (mark ≡ 0) → own' ≡ own → Match (mark - 1) own' ≡ found_at ((trie_of w).hop (p - 1)) own
+  pub matched_some : (own own' : ℕ) → ¬ (mark ≡ 0) → own' ≡ own → Some (record { hop = mark - 1; length = own' }) ≡ found_at ((trie_of w).hop (p - 1)) own
   unfolding found_at
   matched_some own own' n e = rw (mark_hop w p mark pos is-mark, numbered_node mark (omega arith), e)
-
--- ---- no header that fits
-
-pub broken_sound : (w : List ℕ) (shape : Shape) → HeaderRead w shape → shape ≡ Broken → SoundTable w → (X : Bits) (r : Answer) → Matched w X r
-broken_sound w shape read e S X r = absurd (shape_broken w shape read e S.shaped)
 
 -- ---- the last route that contains what was looked for
 
@@ -92,7 +82,7 @@ module _ (w : List ℕ) (x : Address) (s : Stop) (h : Stopped w (ipv4_bits x) 32
   unfolding routes
   counted S = ap (λ (r : walk.Stop). r.examined) (place S) ∙ sym (descent_examined S.trie (ipv4_bits x) S.branches (short_routes w x))
 
-  pub answer_none : s.best ≡ 0 → Answered w (ipv4_bits x) (record { found = Nothing; examined = s.examined; least = 0 })
+  pub answer_none : s.best ≡ 0 → Answered w (ipv4_bits x) (record { found = None; examined = s.examined; least = 0 })
   answer_none z = record {
     sound = λ S.
         let e : match (routes w) (ipv4_bits x) ≡ none = rw whole at (best_none w (ipv4_bits x) 32 s h S z) in
@@ -100,7 +90,7 @@ module _ (w : List ℕ) (x : Address) (s : Stop) (h : Stopped w (ipv4_bits x) 32
     any = omega arith;
   }
 
-  module _ (some-best : ¬ (s.best ≡ 0)) (f : Found) (n : ℕ) where
+  module _ (some-best : ¬ (s.best ≡ 0)) (f : Option Match) (n : ℕ) where
     pub answer_match : f ≡ found_at ((trie_of w).hop (s.best - 1)) (word w (slot_word s.best 1))
         → Length w (length_from (trie_of w) (ipv4_bits x) (numbered s.last) (numbered s.beyond)) n
         → Answered w (ipv4_bits x) (record { found = f; examined = s.examined; least = n })

@@ -47,10 +47,10 @@ length_below_is v i = go (v.child (Kid i false)) (v.child (Kid i true))
     go none (some r) = refl
     go none none = refl
 
-module _ (w : List ℕ) (p : ℕ) (pos : 0 < p) (in_use : p ≤ nodes_of w) (own : ℕ) (is_own : own ≡ word w (slot_word p 1)) where
+module _ (w : List ℕ) (p : ℕ) (pos : 0 < p) (nodes : ℕ) (are-nodes : nodes ≡ nodes_of w) (in_use : p ≤ nodes) (own : ℕ) (is_own : own ≡ word w (slot_word p 1)) where
   -- no node of a sound table is longer than an address
   pub too_long : (n : ℕ) → 32 < own → Length w n 0
-  too_long n l = record { small = omega arith; right = λ S. absurd (omega (arith, S.plain.short p pos in_use)) }
+  too_long n l = record { small = omega arith; right = λ S. absurd (omega (arith, S.plain.short p pos (omega arith))) }
 
   module _ (short : own ≤ 32) where
     -- ---- the node after the last

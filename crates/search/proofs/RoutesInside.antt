@@ -12,6 +12,7 @@ use Rattle.prefix.specs.Bits.{Bits, bits}
 use Rattle.prefix.specs.Prefix.{contains}
 use Rattle.prefix.specs.Addresses.{address_bits, ipv4_bits}
 use Rattle.prefix.specs.declared.Address.{Address}
+use Rattle.prefix.proofs.Overlaps.{contains_ipv4}
 use Rattle.prefix.proofs.Order.{⊑_length}
 use Rattle.prefix.proofs.Tests.{⊑_not, contains_of_take}
 use Rattle.prefix.proofs.AddressLaws.{length_address}
@@ -60,9 +61,9 @@ module _ (w : List ℕ) (a : Address) (n : ℕ) (short : n ≤ 32) where
   unfolding inside_beyond
   lies_none p z = record { right = λ S. rw (z, none_numbered) }
 
-  module _ (p : ℕ) (some-p : ¬ (p ≡ 0)) (in_use : p ≤ nodes_of w) (own : ℕ) (is_own : own ≡ word w (slot_word p 1)) where
+  module _ (p : ℕ) (some-p : ¬ (p ≡ 0)) (nodes : ℕ) (are-nodes : nodes ≡ nodes_of w) (in_use : p ≤ nodes) (own : ℕ) (is_own : own ≡ word w (slot_word p 1)) where
     own_short : SoundTable w → own ≤ 32
-    own_short S = omega (arith, S.plain.short p (omega arith) in_use)
+    own_short S = omega (arith, S.plain.short p (omega arith) (omega arith))
 
     pub lies_shorter : own < n → Tells w (inside_beyond (trie_of w) P (numbered p)) false
     unfolding inside_beyond
@@ -71,12 +72,12 @@ module _ (w : List ℕ) (a : Address) (n : ℕ) (short : n ≤ 32) where
           (sym (⊑_not (λ h. omega (arith, ⊑_length h, length_sought a n short, own_length w p (omega arith) own is_own (own_short S)))));
     }
 
-    pub lies_covered : n ≤ own → (q : Address) → take 32 (address_bits q) ≡ bits 32 (word w (slot_word p 0)) → (r : Bool) → r ≡ contains (take n (address_bits a)) (address_bits q)
+    pub lies_covered : n ≤ own → (q : Address) → take 32 (address_bits q) ≡ bits 32 (word w (slot_word p 0)) → (r : Bool) → r ≡ contains (take n (ipv4_bits a)) (ipv4_bits q)
         → Tells w (inside_beyond (trie_of w) P (numbered p)) r
     unfolding inside_beyond
     lies_covered l q e r is = record {
       right = λ S. rw (numbered_node p (omega arith), ← node_bits w p (omega arith) own is_own q e (own_short S), take-take n 32 (address_bits a) short)
-          (is ∙ sym (contains_of_take own (take n (address_bits a)) (address_bits q) (omega (arith, length-take-le n (address_bits a) (omega (arith, length_address a))))));
+          (is ∙ sym (contains_ipv4 n a q short) ∙ sym (contains_of_take own (take n (address_bits a)) (address_bits q) (omega (arith, length-take-le n (address_bits a) (omega (arith, length_address a))))));
     }
 
 -- ---- which of the two it is

@@ -1,8 +1,8 @@
 -- The standing of a prefix, by where the descent stopped. Assumes nothing.
-use mathlib.Core.Path.{◌≡◌, refl, sym, ap, ap₂, ◌∙◌}
-use mathlib.Core.Bool.{Bool, false}
+use mathlib.Core.Path.{◌≡◌, sym, ap, ap₂, ◌∙◌}
+use mathlib.Core.Bool.{Bool}
 use mathlib.Core.List.{List}
-use Prim.Native.Nat.{ℕ, ◌-◌, ◌≤◌, ◌<◌}
+use Prim.Native.Nat.{ℕ, ◌-◌}
 use native.Mathlib.Decide.{dec_le}
 use native.Mathlib.Omega.{arith}
 use lib.ListN.{take}
@@ -11,19 +11,15 @@ use Rattle.prefix.specs.Prefix.{strictly_inside}
 use Rattle.model.specs.Lists.{any}
 use Rattle.trie.specs.Walk.{inside_from}
 use Rattle.trie.proofs.RoutesInside.{descent_inside}
+use Rattle.std.specs.Prelude.{Option, None}
 use Rattle.sizes.specs.BothStores.{slot_word, word}
 use Rattle.nodes.specs.Layout.{trie_of}
-use Rattle.nodes.specs.Headers.{HeaderRead}
-use Rattle.nodes.specs.declared.Shape.{Shape}
-use Rattle.nodes.specs.declared.Shape.TheVariants.{Broken}
 use Rattle.table.specs.Tables.{routes, SoundTable}
 use Rattle.table.specs.Stops.{Stopped, stop_of}
 use Rattle.table.specs.declared.Stop.{Stop}
-use Rattle.table.proofs.Shapes.{shape_broken}
 use Rattle.search.specs.Looks.{found_at}
 use Rattle.search.specs.Standings.{Judged, JudgedAt, Tells}
-use Rattle.search.specs.declared.Found.{Found}
-use Rattle.search.specs.declared.Found.TheVariants.{Nothing}
+use Rattle.search.specs.declared.Match.{Match}
 use Rattle.search.specs.declared.Standing.{Standing}
 use Rattle.search.proofs.Answers.{best_none, best_match}
 
@@ -34,28 +30,17 @@ module _ (w : List ℕ) (X : Bits) (n : ℕ) (s : Stop) (h : Stopped w X n s) (t
   unfolding routes
   inside_is S = told.right S ∙ ap (inside_from (trie_of w) (take n X)) (h.place S) ∙ sym (descent_inside S.trie S.branches (take n X))
 
-  pub standing_none : s.best ≡ 0 → SoundTable w → Judged w (take n X) (record { found = Nothing; inside = t })
+  pub standing_none : s.best ≡ 0 → SoundTable w → Judged w (take n X) (record { found = None; inside = t })
   standing_none z S = record { is_match = rw (best_none w X n s h S z); is_inside = inside_is S }
 
-  pub standing_match : ¬ (s.best ≡ 0) → (f : Found) → f ≡ found_at ((trie_of w).hop (s.best - 1)) (word w (slot_word s.best 1)) → SoundTable w
+  pub standing_match : ¬ (s.best ≡ 0) → (f : Option Match) → f ≡ found_at ((trie_of w).hop (s.best - 1)) (word w (slot_word s.best 1)) → SoundTable w
       → Judged w (take n X) (record { found = f; inside = t })
   standing_match some-best f e S = record { is_match = e ∙ best_match w X n s h S some-best; is_inside = inside_is S }
-
--- ---- each way out
-
-pub judged_long : (w : List ℕ) (X : Bits) (n : ℕ) → 32 < n → JudgedAt w X n (record { found = Nothing; inside = false })
-judged_long w X n l = record { long = λ _. refl; sound = λ h. absurd (omega arith) }
-
-pub judged_broken : (w : List ℕ) (X : Bits) (n : ℕ) (shape : Shape) → HeaderRead w shape → shape ≡ Broken → JudgedAt w X n (record { found = Nothing; inside = false })
-judged_broken w X n shape read e = record { long = λ _. refl; sound = λ h S. absurd (shape_broken w shape read e S.shaped) }
-
-pub judged_short : (w : List ℕ) (X : Bits) (n : ℕ) (r : Standing) → n ≤ 32 → (SoundTable w → Judged w (take n X) r) → JudgedAt w X n r
-judged_short w X n r l j = record { long = λ h. absurd (omega arith); sound = λ h. j }
 
 -- ---- the contract leaves no two answers open
 
 pub judged_alike : (w : List ℕ) (X : Bits) (n : ℕ) (r s : Standing) → SoundTable w → JudgedAt w X n r → JudgedAt w X n s → r ≡ s
 judged_alike w X n r s S j k = elim (dec_le n 32) [
-  | yes h ↦ let a = j.sound h S in let b = k.sound h S in ap₂ (λ (f : Found) (i : Bool). record { found = f; inside = i }) (a.is_match ∙ sym b.is_match) (a.is_inside ∙ sym b.is_inside)
+  | yes h ↦ let a = j.sound h S in let b = k.sound h S in ap₂ (λ (f : Option Match) (i : Bool). record { found = f; inside = i }) (a.is_match ∙ sym b.is_match) (a.is_inside ∙ sym b.is_inside)
   | no h ↦ j.long (omega arith) ∙ sym (k.long (omega arith))
 ]

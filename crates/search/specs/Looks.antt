@@ -1,19 +1,19 @@
 -- What the parts of a search answer. Assumes nothing.
-use Rattle.std.specs.Prelude.{◌≡◌, true, false, List, ℕ, ◌≤◌}
-use Rattle.std.proofs.Math.Option.{Option, none, some}
+use Rattle.std.specs.Prelude.{◌≡◌, true, false, List, ℕ, ◌≤◌, Option, None, Some}
+use Rattle.std.proofs.Math.Option as math
+use Rattle.std.proofs.Math.Option.{none, some}
 use Rattle.prefix.specs.Bits.{Bits}
 use Rattle.trie.specs.Trie.{Kid, Trie}
 use Rattle.trie.specs.Walk.{length_at}
 use Rattle.table.specs.Tables.{SoundTable}
 use Rattle.search.specs.Matches.{Matched}
-use Rattle.search.specs.declared.Found.{Found}
-use Rattle.search.specs.declared.Found.TheVariants.{Match, Nothing}
+use Rattle.search.specs.declared.Match.{Match}
 use Rattle.search.specs.declared.Answer.{Answer}
 
 -- a node by its hop, if it is a route, and its length
-unfoldable pub found_at : Option ℕ → ℕ → Found
-found_at none own = Nothing
-found_at (some h) own = Match h own
+unfoldable pub found_at : math.Option ℕ → ℕ → Option Match
+found_at none own = None
+found_at (some h) own = Some (record { hop = h; length = own })
 
 -- the length of a node, and one more where it has nodes below it
 abbrev pub length_below : Trie → ℕ → ℕ

@@ -1,3 +1,2 @@
 pub mod SizeLaws
 pub mod SetUpLaws
-pub mod PartLaws

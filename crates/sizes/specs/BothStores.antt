@@ -1,9 +1,8 @@
 -- What both stores have in common: the limit in word 0, slots of eight words from word 1,016 on, of which slot 0 is the header's own,
 -- and what set-up answers and fixes. Assumes nothing.
-use Rattle.std.specs.Prelude.{◌≡◌, List, ℕ, ◌+◌, ◌*◌, ◌≤◌, length, get_or, drop}
+use Rattle.std.specs.Prelude.{◌≡◌, List, ℕ, ◌+◌, ◌*◌, ◌≤◌, length, get_or, drop, Result, OnOk, OnErr}
 use Rattle.sizes.specs.Sizes.{setup_for}
-use Rattle.sizes.specs.declared.Setup.{Setup}
-use Rattle.sizes.specs.declared.Setup.TheVariants.{Done}
+use Rattle.sizes.specs.declared.SetupError.{SetupError}
 
 abbrev pub word : List ℕ → ℕ → ℕ
 word w i = get_or w i 0
@@ -19,10 +18,10 @@ abbrev pub Room : List ℕ → ℕ → Type 0
 Room w i = 1016 + 8 * i + 8 ≤ length w
 
 -- "Set-up checks 8, then 7." A refusal leaves every word; what is made of the store else is the parameter
-pub record SetUp (need : ℕ → ℕ) (Made : List ℕ → List ℕ → ℕ → Type 0) (w w' : List ℕ) (limit : ℕ) (r : Setup) : Type 0 where
+pub record SetUp (need : ℕ → ℕ) (Made : List ℕ → List ℕ → ℕ → Type 0) (w w' : List ℕ) (limit : ℕ) (r : Result (Unit {0}) SetupError) : Type 0 where
   pub answer : r ≡ setup_for need (length w) limit
-  pub done : r ≡ Done → Made w w' limit
-  pub refused : ¬ (r ≡ Done) → w' ≡ w
+  pub done : OnOk r (Made w w' limit)
+  pub refused : OnErr r (w' ≡ w)
 
 -- an empty store of this limit; the words past the need are as they were
 pub record Fresh (need : ℕ → ℕ) (Empty : List ℕ → Type 0) (w w' : List ℕ) (limit : ℕ) : Type 0 where

@@ -5,7 +5,7 @@ use std::io;
 
 fn show(rt: &impl Print, bytes: u64) -> io::Result<()> {
     let answer = sizes::entries_for(bytes);
-    let number = sizes::sizing_number(answer);
+    let number = sizes::refusal::number_of(answer);
     let entries = sizes::sizing_entries(answer);
     println!(rt; "{bytes} number {number} entries {entries}")
 }

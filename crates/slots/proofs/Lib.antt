@@ -1,5 +1,4 @@
 pub mod HeaderLaws
-pub mod Parts
 pub mod Ups
 pub mod Columns
 pub mod StoreLaws

@@ -11,55 +11,60 @@
 // cell is the root's, and the order of use begins and ends there.
 #![tactic(auto)]
 
-ghost use Rattle.std.specs.Prelude.{◌≡◌, ◌<◌, ◌/◌, ◌%◌, take, length, set};
-ghost use Rattle.prefix.specs.Bits.{bits};
-ghost use Rattle.prefix.specs.Addresses.{address_bits};
+ghost use Rattle.std.specs.Prelude.{◌≡◌, ◌<◌, ◌/◌, ◌%◌};
 ghost use Rattle.sizes.specs.Sizes.{cache_need};
 ghost use Rattle.sizes.specs.BothStores.{slot_word, word, Room, SetUp};
 ghost use Rattle.slots.specs.Layout.{cell_word, up_in};
 ghost use Rattle.slots.specs.Headers.{HeaderRead, Emptied};
 ghost use Rattle.slots.specs.Stores.{put_entry, put_hop, put_prev, put_next, put_child, put_branch, put_up, put_count};
 
-use prefix::Address;
-use sizes::Setup;
+use sizes::SetupError;
+use sizes::refusal::Unsound;
+use sizes::slot::{read, write};
+
+pub mod view;
 
 const LIMIT: usize = 0;
 
 const ENTRIES: usize = 1;
 
-const SLOTS: usize = 1016;
+// The fields of a slot.
+const ADDRESS: usize = 0;
+
+const HOP_AND_LENGTH: usize = 1;
+
+const PREV: usize = 2;
+
+const NEXT: usize = 3;
+
+const UP: usize = 4;
+
+const LEFT: usize = 5;
+
+const BRANCH: usize = 7;
 
 // ---- the header
 
-#[derive(Clone, Copy)]
+#[derive(Clone, Copy, Debug, PartialEq, Eq)]
 pub struct Header {
     pub limit: u32,
     pub entries: u32,
 }
 
-#[derive(Clone, Copy)]
-pub enum Shape {
-    Fits(Header),
-    Broken,
-}
-
-// The header, where it fits its store: then every slot in use has its eight words.
-pub fn read_header(store: &[u32]) -> Shape
+// The header, where it fits its store: then every slot in use has its eight words. The table's is read in `nodes`, since it has
+// other words and other tests.
+pub fn read_header(store: &[u32]) -> Result<Header, Unsound>
     ensures { HeaderRead store.now result }
 {
-    let words = store.len();
-    if words < sizes::RESERVED_WORDS {
-        return Shape::Broken;
+    if store.len() < sizes::RESERVED_WORDS {
+        return Err(Unsound);
     }
     let limit = store[LIMIT];
     let entries = store[ENTRIES];
-    let Setup::Done = sizes::cache_setup(words, limit) else {
-        return Shape::Broken;
-    };
-    if limit < entries {
-        return Shape::Broken;
+    if sizes::setup::<sizes::Cache>(store.len(), limit).is_err() || limit < entries {
+        return Err(Unsound);
     }
-    Shape::Fits(Header { limit, entries })
+    Ok(Header { limit, entries })
 }
 
 pub fn set_count(store: &mut [u32], entries: u32)
@@ -69,71 +74,62 @@ pub fn set_count(store: &mut [u32], entries: u32)
     store[ENTRIES] = entries;
 }
 
-// An empty cache, where the store is large enough for the limit. Nothing of the store is read.
-pub fn set_up_cache(store: &mut [u32], limit: u32) -> Setup
+// An empty cache, where the store is large enough for the limit. Nothing of the store is read. An empty table has other words.
+pub fn set_up_cache(store: &mut [u32], limit: u32) -> Result<(), SetupError>
     ensures { SetUp cache_need Emptied store.old store.new limit result }
 {
-    let answer = sizes::cache_setup(store.len(), limit);
-    let Setup::Done = answer else {
-        return answer;
-    };
+    sizes::setup::<sizes::Cache>(store.len(), limit)?;
     store[LIMIT] = limit;
-    store[ENTRIES] = 0;
-    store[SLOTS + 5] = 0;
-    store[SLOTS + 2] = 0;
-    store[SLOTS + 3] = 0;
-    answer
+    set_count(store, 0);
+    set_child(store, 0, 0);
+    set_prev(store, 0, 0);
+    set_next(store, 0, 0);
+    Ok(())
 }
 
 // ---- one value of a slot
-
-pub fn address_of(store: &[u32], i: u32) -> Address
-    requires { Room store.now i }
-    ensures { take 32 (address_bits result) ≡ bits 32 (word store.now (slot_word i 0)) }
-{
-    prefix::from_ipv4(store[SLOTS + 8 * (i as usize)])
-}
 
 pub fn length_of(store: &[u32], i: u32) -> u32
     requires { Room store.now i }
     ensures { result ≡ word store.now (slot_word i 1) % 64 }
 {
-    store[SLOTS + 8 * (i as usize) + 1] % 64
+    read(store, i, HOP_AND_LENGTH) % 64
 }
 
 pub fn hop_of(store: &[u32], i: u32) -> u32
     requires { Room store.now i }
     ensures { result ≡ word store.now (slot_word i 1) / 64 }
 {
-    store[SLOTS + 8 * (i as usize) + 1] / 64
+    read(store, i, HOP_AND_LENGTH) / 64
 }
 
 pub fn prev_of(store: &[u32], i: u32) -> u32
     requires { Room store.now i }
     ensures { result ≡ word store.now (slot_word i 2) }
 {
-    store[SLOTS + 8 * (i as usize) + 2]
+    read(store, i, PREV)
 }
 
 pub fn next_of(store: &[u32], i: u32) -> u32
     requires { Room store.now i }
     ensures { result ≡ word store.now (slot_word i 3) }
 {
-    store[SLOTS + 8 * (i as usize) + 3]
+    read(store, i, NEXT)
 }
 
+// In the words of `cell_word`, which are others in a table.
 pub fn child_of(store: &[u32], cell: u32) -> u32
     requires { Room store.now (cell / 2) }
     ensures { result ≡ word store.now (cell_word cell) }
 {
-    store[SLOTS + 8 * ((cell / 2) as usize) + 5 + ((cell % 2) as usize)]
+    read(store, cell / 2, LEFT + (cell % 2) as usize)
 }
 
 pub fn branch_length(store: &[u32], i: u32) -> u32
     requires { Room store.now i }
     ensures { result ≡ word store.now (slot_word i 7) % 64 }
 {
-    store[SLOTS + 8 * (i as usize) + 7] % 64
+    read(store, i, BRANCH) % 64
 }
 
 // The cell that points at a node, which is an entry or a branch.
@@ -142,30 +138,22 @@ pub fn up_of(store: &[u32], x: u32) -> u32
     ensures { result ≡ up_in store.now x }
 {
     if x % 2 == 0 {
-        store[SLOTS + 8 * ((x / 2) as usize) + 4]
+        read(store, x / 2, UP)
     } else {
-        store[SLOTS + 8 * ((x / 2) as usize) + 7] / 64
+        read(store, x / 2, BRANCH) / 64
     }
 }
 
 // ---- stores
 
-// The entry's two words of a slot, which is lent as a part of the store.
-fn fill(slot: &mut [u32], address: u32, packed: u32)
-    requires { length slot.old ≡ 8 }
-    ensures { slot.new ≡ set (set slot.old 0 address) 1 packed }
-{
-    slot[0] = address;
-    slot[1] = packed;
-}
-
 pub fn set_entry(store: &mut [u32], i: u32, address: u32, length: u32, hop: u32)
     requires room { Room store.old i }
-    requires length_len_bound { (length < 64) × (hop < 67108864) }
+    requires length_bound { length < 64 }
+    requires hop_bound { hop < 67108864 }
     ensures { store.new ≡ put_entry store.old i address length hop }
 {
-    let start = SLOTS + 8 * (i as usize);
-    fill(&mut store[start..start + 8], address, hop * 64 + length);
+    write(store, i, ADDRESS, address);
+    write(store, i, HOP_AND_LENGTH, hop * 64 + length);
 }
 
 pub fn set_hop(store: &mut [u32], i: u32, hop: u32)
@@ -173,38 +161,40 @@ pub fn set_hop(store: &mut [u32], i: u32, hop: u32)
     requires hop_bound { hop < 67108864 }
     ensures { store.new ≡ put_hop store.old i hop }
 {
-    let at = SLOTS + 8 * (i as usize) + 1;
-    store[at] = hop * 64 + store[at] % 64;
+    let length = length_of(store, i);
+    write(store, i, HOP_AND_LENGTH, hop * 64 + length);
 }
 
 pub fn set_prev(store: &mut [u32], i: u32, s: u32)
     requires { Room store.old i }
     ensures { store.new ≡ put_prev store.old i s }
 {
-    store[SLOTS + 8 * (i as usize) + 2] = s;
+    write(store, i, PREV, s);
 }
 
 pub fn set_next(store: &mut [u32], i: u32, s: u32)
     requires { Room store.old i }
     ensures { store.new ≡ put_next store.old i s }
 {
-    store[SLOTS + 8 * (i as usize) + 3] = s;
+    write(store, i, NEXT, s);
 }
 
+// In the words of `cell_word`, as `child_of`.
 pub fn set_child(store: &mut [u32], cell: u32, x: u32)
     requires { Room store.old (cell / 2) }
     ensures { store.new ≡ put_child store.old cell x }
 {
-    store[SLOTS + 8 * ((cell / 2) as usize) + 5 + ((cell % 2) as usize)] = x;
+    write(store, cell / 2, LEFT + (cell % 2) as usize, x);
 }
 
 // The branch of slot i hangs in a cell and has so many bits.
 pub fn set_branch(store: &mut [u32], i: u32, cell: u32, m: u32)
     requires room { Room store.old i }
-    requires cell_bound { (cell < 67108864) × (m < 64) }
+    requires cell_bound { cell < 67108864 }
+    requires length_bound { m < 64 }
     ensures { store.new ≡ put_branch store.old i cell m }
 {
-    store[SLOTS + 8 * (i as usize) + 7] = cell * 64 + m;
+    write(store, i, BRANCH, cell * 64 + m);
 }
 
 // The node x, an entry or a branch, hangs in a cell.
@@ -214,7 +204,7 @@ pub fn set_up(store: &mut [u32], x: u32, cell: u32)
     ensures { store.new ≡ put_up store.old x cell }
 {
     if x % 2 == 0 {
-        store[SLOTS + 8 * ((x / 2) as usize) + 4] = cell;
+        write(store, x / 2, UP, cell);
         return;
     }
     let m = branch_length(store, x / 2);

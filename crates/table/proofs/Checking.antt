@@ -7,8 +7,8 @@ use Prim.Native.Nat.{ℕ, suc, ◌+◌, ◌-◌, ◌*◌, ◌≤◌, ◌<◌}
 use native.Mathlib.Decide.{ℕ_discrete}
 use native.Mathlib.Omega.{arith}
 use lib.ListN.{length}
-use lib.Dec.{eqb, leb}
-use borrow.Author.Tests.{eqb-true, eqb-false, eq-eqb, leb-true, leb-false}
+use lib.Dec.{eqb}
+use borrow.Author.Tests.{eqb-true, eq-eqb}
 use Rattle.prefix.specs.Bits.{one?}
 use Rattle.prefix.proofs.Booleans.{clash, not_false, is_true}
 use Rattle.model.specs.Demands.{Hop}
@@ -17,46 +17,15 @@ use Rattle.trie.specs.Routes.{and_route, routes_of}
 use Rattle.trie.specs.Check.{CellOk, SlotOk}
 use Rattle.trie.proofs.Checking.{checked_sound}
 use Rattle.sizes.specs.BothStores.{slot_word, word}
-use Rattle.nodes.specs.Layout.{nodes_of, trie_of, numbered}
+use Rattle.nodes.specs.Layout.{nodes_of, route_count, trie_of, numbered, Shaped}
 use Rattle.nodes.specs.Stores.{node_in}
-use Rattle.nodes.specs.Headers.{HeaderRead}
 use Rattle.nodes.specs.declared.Node.{Node}
-use Rattle.nodes.specs.declared.Header.{Header}
-use Rattle.nodes.specs.declared.Shape.{Shape}
-use Rattle.nodes.specs.declared.Shape.TheVariants.{Fits, Broken}
 use Rattle.nodes.proofs.Coding.{numbered_some, numbered_node, none_numbered, cell_root, cell_side, numbered_none}
 use Rattle.nodes.proofs.Spelling.{NodeIs, node_is}
 use Rattle.table.specs.Tables.{routes, SoundTable, TableChecked}
 use Rattle.table.specs.Checks.{Verdict, Decides, CellFine, HasCell, Marked, NodeFine, Passed}
-use Rattle.table.proofs.Shapes.{shape_broken, shape_fits, shape_nodes, shape_routes}
 use Rattle.table.proofs.Reading.{mark_hop}
 use Rattle.table.proofs.Judging.{refuse}
-
--- ---- the mark
-
-refuted : {good : Type 0} → ¬ good → Decides good false
-refuted n = record { yes = λ e. absurd (clash e refl); no = λ _. n }
-
-module _ (node : Node) where
-  module _ (branch : node.mark ≡ 0) where
-    pub branch_left : node.left ≡ 0 → Decides (Marked node) false
-    branch_left z = refuted (λ m. omega (arith, m.branch branch))
-
-    pub branch_right : ¬ (node.left ≡ 0) → Decides (Marked node) (not (eqb node.right 0))
-    branch_right l = record {
-      yes = λ e. record { branch = λ _. (omega arith, omega (arith, eqb-false node.right 0 (not_false _ e))); route = λ h. absurd (omega arith) };
-      no = λ e m. omega (arith, m.branch branch, eqb-true node.right 0 (is_true (λ f. clash (ap not f) e)));
-    }
-
-  module _ (route : ¬ (node.mark ≡ 0)) where
-    pub hop_none : node.mark < 2 → Decides (Marked node) false
-    hop_none l = refuted (λ m. omega (arith, m.route (omega arith)))
-
-    pub hop_high : 2 ≤ node.mark → Decides (Marked node) (leb node.mark 65536)
-    hop_high l = record {
-      yes = λ e. record { branch = λ z. absurd (route z); route = λ _. (l, leb-true node.mark 65536 e) };
-      no = λ e m. omega (arith, m.route (omega arith), leb-false node.mark 65536 e);
-    }
 
 -- ---- one node
 
@@ -136,7 +105,7 @@ module _ (w : List ℕ) (p nodes : ℕ) (are-nodes : nodes ≡ nodes_of w) (pos 
 
 -- ---- the routes among the nodes that were passed
 
-module _ (w : List ℕ) (p count : ℕ) (before : Passed w p count) (in_use : p ≤ nodes_of w) (now : NodeFine w p) (mark : ℕ) (is-mark : mark ≡ word w (slot_word p 2)) where
+module _ (w : List ℕ) (nodes p count : ℕ) (are-nodes : nodes ≡ nodes_of w) (before : Passed w p count) (in_use : p ≤ nodes) (now : NodeFine w p) (mark : ℕ) (is-mark : mark ≡ word w (slot_word p 2)) where
   fine : (k : ℕ) → 0 < k → k < p + 1 → NodeFine w k
   fine k a b = elim (ℕ_discrete k p) [ yes e ↦ rw e now | no n ↦ before.fine k a (omega arith) ]
 
@@ -158,40 +127,28 @@ module _ (w : List ℕ) (p count : ℕ) (before : Passed w p count) (in_use : p 
 
 -- ---- the whole
 
-not_sound : (w : List ℕ) → ¬ (SoundTable w) → TableChecked w false
-not_sound w n = (λ e. absurd (clash e refl), λ S. absurd (n S))
-
-pub check_broken : (w : List ℕ) (shape : Shape) → HeaderRead w shape → shape ≡ Broken → TableChecked w false
-check_broken w shape h e = not_sound w (λ S. shape_broken w shape h e S.shaped)
-
-pub check_refused : {w : List ℕ} {good : Type 0} {r : Bool} → Verdict w good r → not r ≡ true → TableChecked w false
-check_refused {w} {r = r} v e = not_sound w (v.no (not_false r e))
-
 -- no node is passed yet
 pub check_start : (w : List ℕ) → Passed w 1 0
 unfolding routes_of
 check_start w = record { from = omega arith; upto = omega arith; fine = λ k a b. absurd (omega arith); count = refl; few = omega arith }
 
-pub node_yes : (w : List ℕ) (p : ℕ) (r : Bool) → Verdict w (NodeFine w p) r → not r ≡ false → NodeFine w p
-node_yes w p r v e = v.yes (on_yes r e)
-
-module _ (w : List ℕ) (shape : Shape) (read : HeaderRead w shape) (h : Header) (is : shape ≡ Fits h) where
-  module _ (r : Bool) (root : Verdict w (CellFine w 0) r) (is-r : not r ≡ false) (p count : ℕ) (all : Passed w p count) (past : h.nodes < p) where
+module _ (w : List ℕ) (fits : Shaped w) (nodes : ℕ) (are-nodes : nodes ≡ nodes_of w) (held : ℕ) (are-held : held ≡ route_count w) where
+  module _ (r : Bool) (root : Verdict w (CellFine w 0) r) (is-r : not r ≡ false) (p count : ℕ) (all : Passed w p count) (past : nodes < p) where
     passed : p - 1 ≡ nodes_of w
-    passed = omega (arith, all.upto, shape_nodes w shape read h is)
+    passed = omega (arith, all.upto)
 
     count_is : count ≡ length (routes w)
     unfolding routes
     count_is = rw passed at all.count
 
-    sound : count ≡ h.routes → SoundTable w
+    sound : count ≡ held → SoundTable w
     sound e = record {
-      shaped = shape_fits w shape read h is;
+      shaped = fits;
       plain = record { short = λ k a b. (node k a b).short; celled = λ k a b. (node k a b).celled };
       trie = checked.0;
       branches = checked.1;
       hops = λ k x l. (rw (under k) at (slot_of k l).hop) x;
-      counted = sym (shape_routes w shape read h is) ∙ sym e ∙ count_is;
+      counted = sym are-held ∙ sym e ∙ count_is;
     }
       where
         node : (k : ℕ) → 0 < k → k ≤ nodes_of w → NodeFine w k
@@ -206,5 +163,5 @@ module _ (w : List ℕ) (shape : Shape) (read : HeaderRead w shape) (h : Header)
         checked : Sound (Dense (nodes_of w)) (trie_of w) × Branchy (Dense (nodes_of w)) (trie_of w)
         checked = checked_sound (nodes_of w) (trie_of w) (record { root = rw cell_root at (root.yes (on_yes r is-r)).ok; slots = λ k l. rw (under k) at (slot_of k l).slot })
 
-    pub check_all : TableChecked w (eqb count h.routes)
-    check_all = (λ e. sound (eqb-true count h.routes e), λ S. eq-eqb count h.routes (count_is ∙ sym S.counted ∙ sym (shape_routes w shape read h is)))
+    pub check_all : TableChecked w (eqb count held)
+    check_all = (λ e. sound (eqb-true count held e), λ S. eq-eqb count held (count_is ∙ sym S.counted ∙ sym are-held))

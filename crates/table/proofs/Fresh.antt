@@ -6,7 +6,8 @@ use Prim.Native.Nat.{ℕ, ◌≤◌}
 use native.Mathlib.Omega.{arith}
 use lib.ListN.{length}
 use Rattle.sizes.specs.Sizes.{LegalLimit, table_need}
-use Rattle.sizes.specs.declared.Setup.{Setup}
+use Rattle.std.specs.Prelude.{Result}
+use Rattle.sizes.specs.declared.SetupError.{SetupError}
 use Rattle.sizes.specs.BothStores.{SetUp, Fresh}
 use Rattle.sizes.proofs.SetUpLaws.{set_up_makes}
 use Rattle.trie.specs.Trie.{Cell, Root, Kid, Trie, Inside, Points, Sound, Dense}
@@ -47,5 +48,5 @@ fresh w limit legal enough =
       past_kept = empty_past w limit;
     }
 
-pub table_set_up : (w w' : List ℕ) (limit : ℕ) (r : Setup) → SetUp table_need Emptied w w' limit r → TableSetUp w w' limit r
+pub table_set_up : (w w' : List ℕ) (limit : ℕ) (r : Result (Unit {0}) SetupError) → SetUp table_need Emptied w w' limit r → TableSetUp w w' limit r
 table_set_up w w' limit r = set_up_makes table_need Emptied (Fresh table_need EmptyTable) w w' limit r (λ legal enough e. rw e (fresh w limit legal enough))

@@ -1,4 +1,3 @@
-pub mod Shapes
 pub mod Fresh
 pub mod Reading
 pub mod Turning

@@ -23,8 +23,8 @@ use Rattle.table.specs.Stops.{Stopped}
 use Rattle.table.specs.Turns.{Going, Onward, Turned, Tested, Chosen, off_of}
 use Rattle.table.specs.declared.Walk.{Walk}
 use Rattle.table.specs.declared.Stop.{Stop}
-use Rattle.table.specs.declared.Turn.{Turn}
-use Rattle.table.specs.declared.Turn.TheVariants.{On, End}
+use Rattle.std.specs.declared.ops.ControlFlow.{ControlFlow}
+use Rattle.std.specs.declared.ops.ControlFlow.TheVariants.{Continue, Break}
 use Rattle.table.proofs.Reading.{length_sought}
 
 module _ (w : List ℕ) (a : Address) (n : ℕ) (short : n ≤ 32) (k : Walk) (g : Going w (ipv4_bits a) n k) where
@@ -47,15 +47,15 @@ module _ (w : List ℕ) (a : Address) (n : ℕ) (short : n ≤ 32) (k : Walk) (g
   nothing (some i) f = absurd (f i refl)
 
   module _ (s : Stop) (is : s ≡ off_of k) where
-    pub over_none : k.at ≡ 0 → Turned w (ipv4_bits a) n k (End s)
+    pub over_none : k.at ≡ 0 → Turned w (ipv4_bits a) n k (Break s)
     unfolding Turned
     over_none z = rw is (over (λ S. ap numbered z ∙ none_numbered))
 
-    pub over_out : (nodes : ℕ) → nodes ≡ nodes_of w → nodes < k.at → Turned w (ipv4_bits a) n k (End s)
+    pub over_out : (nodes : ℕ) → nodes ≡ nodes_of w → nodes < k.at → Turned w (ipv4_bits a) n k (Break s)
     unfolding Turned
     over_out nodes e l = rw is (over (λ S. nothing (numbered k.at) (λ i h. omega (arith, numbered_some k.at i h, ((g.way S).reached S.trie i h).0))))
 
-    pub over_many : n < k.examined → Turned w (ipv4_bits a) n k (End s)
+    pub over_many : n < k.examined → Turned w (ipv4_bits a) n k (Break s)
     unfolding Turned
     over_many l = rw is (over (λ S. nothing (numbered k.at) (λ i e. omega (arith, length_sought a n short, ((g.way S).reached S.trie i e).2))))
 
@@ -77,7 +77,7 @@ module _ (w : List ℕ) (a : Address) (n : ℕ) (short : n ≤ 32) (k : Walk) (g
     tested : SoundTable w → h ≡ contains ((trie_of w).prefix (k.at - 1)) X
     tested S = test.answer (S.plain.short k.at (omega arith) inside)
 
-    pub parted : h ≡ false → Turned w (ipv4_bits a) n k (End (record { last = k.last; beyond = k.at; best = k.best; examined = k.examined + 1 }))
+    pub parted : h ≡ false → Turned w (ipv4_bits a) n k (Break (record { last = k.last; beyond = k.at; best = k.best; examined = k.examined + 1 }))
     unfolding Turned
     parted f = record {
       last_in = g.last_in;
@@ -88,7 +88,7 @@ module _ (w : List ℕ) (a : Address) (n : ℕ) (short : n ≤ 32) (k : Walk) (g
     }
 
     pub on : h ≡ true → (q r : ℕ) → numbered q ≡ follow (trie_of w) (take n (ipv4_bits a)) (k.at - 1) → Chosen w k.at k.best r
-        → Turned w (ipv4_bits a) n k (On (record { at = q; last = k.at; best = r; examined = k.examined + 1 }))
+        → Turned w (ipv4_bits a) n k (Continue (record { at = q; last = k.at; best = r; examined = k.examined + 1 }))
     unfolding Turned
     on t q r eq ch = record {
       going = record {
@@ -102,18 +102,18 @@ module _ (w : List ℕ) (a : Address) (n : ℕ) (short : n ≤ 32) (k : Walk) (g
 
 -- ---- what the answer tells
 
-module _ (w : List ℕ) (X : Bits) (n : ℕ) (k : Walk) (t : Turn) (h : Turned w X n k t) where
-  turned_on : (next : Walk) → t ≡ On next → Onward w X n k next
+module _ (w : List ℕ) (X : Bits) (n : ℕ) (k : Walk) (t : ControlFlow Stop Walk) (h : Turned w X n k t) where
+  turned_on : (next : Walk) → t ≡ Continue next → Onward w X n k next
   unfolding Turned
   turned_on next e = rw e at h
 
-  pub turned_going : (next : Walk) → t ≡ On next → Going w X n next
+  pub turned_going : (next : Walk) → t ≡ Continue next → Going w X n next
   turned_going next e = (turned_on next e).going
 
-  pub turned_less : (next : Walk) → t ≡ On next → n + 1 - next.examined < n + 1 - k.examined
+  pub turned_less : (next : Walk) → t ≡ Continue next → n + 1 - next.examined < n + 1 - k.examined
   turned_less next e = let o = turned_on next e in omega (arith, o.one_more, o.going.few)
 
-  pub turned_over : (s : Stop) → t ≡ End s → Stopped w X n s
+  pub turned_over : (s : Stop) → t ≡ Break s → Stopped w X n s
   unfolding Turned
   turned_over s e = rw e at h
 

@@ -1,9 +1,9 @@
 -- Which words are a sound table store, and the routes that they hold. docs/SOUND.md says it in prose. Assumes nothing.
-use Rattle.std.specs.Prelude.{◌≡◌, Bool, true, ◌↔◌, List, [], ℕ, ◌<◌, length}
+use Rattle.std.specs.Prelude.{◌≡◌, Bool, true, ◌↔◌, List, [], ℕ, ◌<◌, length, Result}
 use Rattle.std.proofs.Math.Option.{some}
 use Rattle.sizes.specs.Sizes.{table_need}
 use Rattle.sizes.specs.BothStores.{SetUp, Fresh}
-use Rattle.sizes.specs.declared.Setup.{Setup}
+use Rattle.sizes.specs.declared.SetupError.{SetupError}
 use Rattle.model.specs.Routes.{Table}
 use Rattle.model.specs.Demands.{Hop}
 use Rattle.trie.specs.Trie.{Sound, Branchy, Dense}
@@ -33,7 +33,7 @@ pub record SoundTable (w : List ℕ) : Type 0 where
 abbrev pub EmptyTable : List ℕ → Type 0
 EmptyTable w = SoundTable w × (routes w ≡ [])
 
-abbrev pub TableSetUp : List ℕ → List ℕ → ℕ → Setup → Type 0
+abbrev pub TableSetUp : List ℕ → List ℕ → ℕ → Result (Unit {0}) SetupError → Type 0
 TableSetUp = SetUp table_need (Fresh table_need EmptyTable)
 
 -- ---- what the check promises: "answers yes or no and writes nothing"

@@ -10,8 +10,8 @@ use Rattle.table.specs.Tables.{SoundTable}
 use Rattle.table.specs.Stops.{Stopped}
 use Rattle.table.specs.declared.Stop.{Stop}
 use Rattle.table.specs.declared.Walk.{Walk}
-use Rattle.table.specs.declared.Turn.{Turn}
-use Rattle.table.specs.declared.Turn.TheVariants.{On, End}
+use Rattle.std.specs.declared.ops.ControlFlow.{ControlFlow}
+use Rattle.std.specs.declared.ops.ControlFlow.TheVariants.{Continue, Break}
 
 -- on any store the nodes are ones in use, or none, and few were examined; on a sound one the trie's descent goes on from there
 pub record Going (w : List ℕ) (X : Bits) (n : ℕ) (k : Walk) : Type 0 where
@@ -35,9 +35,9 @@ pub record Onward (w : List ℕ) (X : Bits) (n : ℕ) (k next : Walk) : Type 0 w
   pub one_more : next.examined ≡ suc k.examined
 
 -- it goes on, or it is over
-unfoldable pub Turned : List ℕ → Bits → ℕ → Walk → Turn → Type 0
-Turned w X n k (On next) = Onward w X n k next
-Turned w X n k (End stop) = Stopped w X n stop
+unfoldable pub Turned : List ℕ → Bits → ℕ → Walk → ControlFlow Stop Walk → Type 0
+Turned w X n k (Continue next) = Onward w X n k next
+Turned w X n k (Break stop) = Stopped w X n stop
 
 -- there is no node in hand
 abbrev pub off_of : Walk → Stop

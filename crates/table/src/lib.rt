@@ -18,15 +18,18 @@ ghost use Rattle.table.specs.Stops.{Stopped};
 ghost use Rattle.table.specs.Turns.{Going, Turned, off_of, Tested, Chosen};
 ghost use Rattle.table.specs.Checks.{Verdict, Decides, GoesOn, CellFine, HasCell, Marked, NodeFine, Passed};
 
-use nodes::{Node, Shape};
-use prefix::Address;
-use sizes::Setup;
+use nodes::Node;
+use nodes::view::Nodes;
+use prefix::HALF;
+use prefix::ipv4::Prefix;
+use sizes::SetupError;
+use std::ops::ControlFlow;
 
 // A route's mark is its hop and one more.
 const HIGHEST_MARK: u32 = sizes::HIGHEST_HOP + 1;
 
 // An empty table, where the store is large enough for the limit.
-pub fn set_up(store: &mut [u32], limit: u32) -> Setup
+pub fn set_up(store: &mut [u32], limit: u32) -> Result<(), SetupError>
     ensures { TableSetUp store.old store.new limit result }
 {
     nodes::set_up_table(store, limit)
@@ -34,8 +37,9 @@ pub fn set_up(store: &mut [u32], limit: u32) -> Setup
 
 // ---- the descent
 
-// Where the descent stands: the node in hand, and of those before it the last, the last that is a route, and how many.
-#[derive(Clone, Copy)]
+// Where the descent stands: the node in hand, and of those before it the last, the last that is a route, and how many. A node is
+// its number, 0 for none, as the words of the store have it: an Option would be made of it and taken apart at each step.
+#[derive(Clone, Copy, Debug, PartialEq, Eq)]
 struct Walk {
     at: u32,
     last: u32,
@@ -44,7 +48,7 @@ struct Walk {
 }
 
 // Where it stops: the last node that contains the prefix, the one after it that does not, and the last that is a route.
-#[derive(Clone, Copy)]
+#[derive(Clone, Copy, Debug, PartialEq, Eq)]
 pub struct Stop {
     pub last: u32,
     pub beyond: u32,
@@ -52,39 +56,25 @@ pub struct Stop {
     pub examined: u32,
 }
 
-#[derive(Clone, Copy)]
-enum Turn {
-    On(Walk),
-    End(Stop),
-}
-
-// One node: it contains the first n bits of a and the descent goes on below it, or it stops there.
-fn step(store: &[u32], nodes: u32, a: Address, n: u32, w: Walk) -> Turn
-    requires shaped { Shaped store.now }
-    requires nodes_value { (nodes ≡ nodes_of store.now) × (n ≤ 32) }
-    requires going { Going store.now (ipv4_bits a) n w }
-    ensures { Turned store.now (ipv4_bits a) n w result }
+// One node: it contains what is sought and the descent goes on below it, or it stops there.
+fn step(nodes: Nodes, sought: Prefix, w: Walk) -> ControlFlow<Stop, Walk>
+    requires { Going nodes.store.now (ipv4_bits sought.address) sought.length w }
+    ensures { Turned nodes.entry.store.now (ipv4_bits sought.address) sought.length w result }
 {
     let at = w.at;
-    if at == 0 {
-        return Turn::End(off(w));
+    if at == 0 || nodes.count < at || sought.length < w.examined {
+        return ControlFlow::Break(off(w));
     }
-    if nodes < at {
-        return Turn::End(off(w));
-    }
-    if n < w.examined {
-        return Turn::End(off(w));
-    }
-    let own = nodes::length_of(store, at);
-    if holds(store, at, own, a, n) {
-        return Turn::On(Walk {
-            at: below(store, at, own, a, n),
+    let own = nodes.length_of(at);
+    if holds(nodes, at, own, sought) {
+        return ControlFlow::Continue(Walk {
+            at: below(nodes, at, own, sought),
             last: at,
-            best: better(store, at, w.best),
+            best: better(nodes, at, w.best),
             examined: w.examined + 1,
         });
     }
-    Turn::End(Stop {
+    ControlFlow::Break(Stop {
         last: w.last,
         beyond: at,
         best: w.best,
@@ -104,69 +94,55 @@ fn off(w: Walk) -> Stop
     }
 }
 
-// Whether node p, of the length own, contains the first n bits of a.
-fn holds(store: &[u32], p: u32, own: u32, a: Address, n: u32) -> bool
-    requires shaped { Shaped store.now }
-    requires p_nonzero { (0 < p) × (p ≤ nodes_of store.now) × (n ≤ 32) }
-    requires own_value { own ≡ word store.now (slot_word p 1) }
-    ensures { Tested store.now (ipv4_bits a) n p result }
+// Whether node p, of the length own, contains what is sought.
+fn holds(nodes: Nodes, p: u32, own: u32, sought: Prefix) -> bool
+    requires a_node { 0 < p }
+    requires in_use { p ≤ nodes.count }
+    requires own_length { own ≡ word nodes.store.now (slot_word p 1) }
+    ensures { Tested nodes.entry.store.now (ipv4_bits sought.address) sought.length p result }
 {
-    if n < own {
-        return false;
-    }
-    prefix::covers_high(nodes::address_of(store, p), own, a)
+    own <= sought.length && nodes.address_of(p).covers::<HALF>(own, sought.address)
 }
 
-// The node below node p, of the length own, on the side of a's next bit, if n bits of a are longer than the node.
-fn below(store: &[u32], p: u32, own: u32, a: Address, n: u32) -> u32
-    requires shaped { Shaped store.now }
-    requires p_nonzero { (0 < p) × (p ≤ nodes_of store.now) × (n ≤ 32) }
-    requires own_value { own ≡ word store.now (slot_word p 1) }
-    ensures { numbered result ≡ follow (trie_of store.now) (take n (ipv4_bits a)) (p - 1) }
+// The node below node p, of the length own, on the side of the next bit that is sought, if there is one.
+fn below(nodes: Nodes, p: u32, own: u32, sought: Prefix) -> u32
+    requires a_node { 0 < p }
+    requires in_use { p ≤ nodes.count }
+    requires own_length { own ≡ word nodes.store.now (slot_word p 1) }
+    ensures { numbered result ≡ follow (trie_of nodes.entry.store.now) (take sought.length (ipv4_bits sought.address)) (p - 1) }
 {
-    if own < n {
-        nodes::child_of(store, 2 * p + prefix::bit_at_high(a, own))
+    if own < sought.length {
+        nodes.child_of(2 * p + sought.address.bit_at::<HALF>(own))
     } else {
         0
     }
 }
 
 // Node p if it is a route, else the best before it.
-fn better(store: &[u32], p: u32, best: u32) -> u32
-    requires shaped { Shaped store.now }
-    requires p_nonzero { (0 < p) × (p ≤ nodes_of store.now) }
-    ensures { Chosen store.now p best result }
+fn better(nodes: Nodes, p: u32, best: u32) -> u32
+    requires a_node { 0 < p }
+    requires in_use { p ≤ nodes.count }
+    ensures { Chosen nodes.entry.store.now p best result }
 {
-    let mark = nodes::mark_of(store, p);
-    if mark == 0 {
-        return best;
-    }
-    p
+    if nodes.mark_of(p) == 0 { best } else { p }
 }
 
-// From the root by the first n bits of a.
-pub fn descend(store: &[u32], nodes: u32, a: Address, n: u32) -> Stop
-    requires shaped { Shaped store.now }
-    requires nodes_value { (nodes ≡ nodes_of store.now) × (n ≤ 32) }
-    ensures { Stopped store.now (ipv4_bits a) n result }
+// From the root, by the bits that are sought.
+pub fn descend(nodes: Nodes, sought: Prefix) -> Stop
+    ensures { Stopped nodes.entry.store.now (ipv4_bits sought.address) sought.length result }
 {
     let mut w = Walk {
-        at: nodes::child_of(store, 0),
+        at: nodes.child_of(0),
         last: 0,
         best: 0,
         examined: 0,
     };
-    let stop = loop {
-        match step(store, nodes, a, n, w) {
-            Turn::On(next) => {
-                w = next;
-            }
-            Turn::End(stop) => {
-                break stop;
-            }
+    loop {
+        match step(nodes, sought, w) {
+            ControlFlow::Continue(next) => w = next,
+            ControlFlow::Break(stop) => return stop,
         }
-    };
-    stop
+    }
 }
 
 // ---- the check: one look at each node
@@ -175,33 +151,30 @@ pub fn descend(store: &[u32], nodes: u32, a: Address, n: u32) -> Stop
 pub fn check(store: &[u32]) -> bool
     ensures { TableChecked store.now result }
 {
-    let Shape::Fits(h) = nodes::read_header(store) else {
+    let Ok(nodes) = Nodes::open(store) else {
         return false;
     };
-    let nodes = h.nodes;
-    if !child_ok(store, nodes, 0) {
+    if !child_ok(nodes, 0) {
         return false;
     }
     let mut routes: u32 = 0;
-    let mut p: u32 = 1;
-    while p <= nodes {
-        if !node_ok(store, nodes, p) {
+    for p in 1..=nodes.count {
+        if !node_ok(nodes, p) {
             return false;
         }
-        routes = counted(store, p, routes);
-        p += 1;
+        routes = counted(nodes, p, routes);
     }
-    routes == h.routes
+    routes == nodes.routes()
 }
 
 // The routes below node p, and one more if it is a route.
-fn counted(store: &[u32], p: u32, routes: u32) -> u32
-    requires shaped { Shaped store.now }
-    requires p_bound { (p ≤ nodes_of store.now) × (NodeFine store.now p) }
-    requires passed { Passed store.now p routes }
-    ensures { Passed store.now (p + 1) result }
+fn counted(nodes: Nodes, p: u32, routes: u32) -> u32
+    requires in_use { p ≤ nodes.count }
+    requires fine { NodeFine nodes.store.now p }
+    requires passed { Passed nodes.store.now p routes }
+    ensures { Passed nodes.entry.store.now (p + 1) result }
 {
-    if nodes::mark_of(store, p) != 0 {
+    if nodes.mark_of(p) != 0 {
         routes + 1
     } else {
         routes
@@ -209,25 +182,16 @@ fn counted(store: &[u32], p: u32, routes: u32) -> u32
 }
 
 // Whether node p is as it should be: its length, its mark, the cell that points at it, and its own two cells.
-fn node_ok(store: &[u32], nodes: u32, p: u32) -> bool
-    requires shaped { Shaped store.now }
-    requires nodes_value { (nodes ≡ nodes_of store.now) × (0 < p) × (p ≤ nodes) }
-    ensures { Verdict store.now (NodeFine store.now p) result }
+fn node_ok(nodes: Nodes, p: u32) -> bool
+    requires a_node { 0 < p }
+    requires in_use { p ≤ nodes.count }
+    ensures { Verdict nodes.entry.store.now (NodeFine nodes.entry.store.now p) result }
 {
-    let node = nodes::node_at(store, p);
-    if 32 < node.length {
+    let node = nodes.node_at(p);
+    if 32 < node.length || !mark_ok(node) || !owned(nodes, p, node.up) || !child_ok(nodes, 2 * p) {
         return false;
     }
-    if !mark_ok(node) {
-        return false;
-    }
-    if !owned(store, nodes, p, node.up) {
-        return false;
-    }
-    if !child_ok(store, nodes, 2 * p) {
-        return false;
-    }
-    child_ok(store, nodes, 2 * p + 1)
+    child_ok(nodes, 2 * p + 1)
 }
 
 // Whether a branch has two nodes below it, and a hop is 1 to 65,535.
@@ -235,74 +199,58 @@ fn mark_ok(node: Node) -> bool
     ensures { Decides (Marked node) result }
 {
     if node.mark == 0 {
-        if node.left == 0 {
-            return false;
-        }
-        return node.right != 0;
+        node.left != 0 && node.right != 0
+    } else {
+        2 <= node.mark && node.mark <= HIGHEST_MARK
     }
-    if node.mark < 2 {
-        return false;
-    }
-    node.mark <= HIGHEST_MARK
 }
 
 // Whether node p's cell is one that there is, and points at the node.
-fn owned(store: &[u32], nodes: u32, p: u32, cell: u32) -> bool
-    requires shaped { Shaped store.now }
-    requires nodes_value { (nodes ≡ nodes_of store.now) × (0 < p) × (p ≤ nodes) }
-    requires cell_value { cell ≡ word store.now (slot_word p 5) }
-    ensures { Verdict store.now (HasCell store.now p) result }
+fn owned(nodes: Nodes, p: u32, cell: u32) -> bool
+    requires a_node { 0 < p }
+    requires in_use { p ≤ nodes.count }
+    requires its_cell { cell ≡ word nodes.store.now (slot_word p 5) }
+    ensures { Verdict nodes.entry.store.now (HasCell nodes.entry.store.now p) result }
 {
-    if cell == 1 {
+    if cell == 1 || nodes.count < cell / 2 {
         return false;
     }
-    if nodes < cell / 2 {
-        return false;
-    }
-    nodes::child_of(store, cell) == p
+    nodes.child_of(cell) == p
 }
 
 // Whether what a cell points at, if anything, points back, and goes on from the cell's own prefix by its side.
-fn child_ok(store: &[u32], nodes: u32, cell: u32) -> bool
-    requires shaped { Shaped store.now }
-    requires nodes_value { (nodes ≡ nodes_of store.now) × (¬ (cell ≡ 1)) × (cell / 2 ≤ nodes) }
-    ensures { Verdict store.now (CellFine store.now cell) result }
+fn child_ok(nodes: Nodes, cell: u32) -> bool
+    requires a_cell { ¬ (cell ≡ 1) }
+    requires cell_in_use { cell / 2 ≤ nodes.count }
+    ensures { Verdict nodes.entry.store.now (CellFine nodes.entry.store.now cell) result }
 {
-    let p = nodes::child_of(store, cell);
+    let p = nodes.child_of(cell);
     if p == 0 {
         return true;
     }
-    if nodes < p {
+    if nodes.count < p || nodes.up_of(p) != cell {
         return false;
     }
-    let up = nodes::up_of(store, p);
-    if up == cell {
-        return goes_on(store, cell, p);
-    }
-    false
+    goes_on(nodes, cell, p)
 }
 
 // Whether node p, at which a cell points, goes on from the cell's own prefix by its side. Any node does from the root cell.
-fn goes_on(store: &[u32], cell: u32, p: u32) -> bool
-    requires shaped { Shaped store.now }
-    requires not_cell { (¬ (cell ≡ 1)) × (cell / 2 ≤ nodes_of store.now) × (0 < p) × (p ≤ nodes_of store.now) }
-    requires p_value { p ≡ word store.now (cell_word cell) }
-    ensures { Verdict store.now (GoesOn store.now cell p) result }
+fn goes_on(nodes: Nodes, cell: u32, p: u32) -> bool
+    requires a_cell { ¬ (cell ≡ 1) }
+    requires cell_in_use { cell / 2 ≤ nodes.count }
+    requires a_node { 0 < p }
+    requires in_use { p ≤ nodes.count }
+    requires pointed_at { p ≡ word nodes.store.now (cell_word cell) }
+    ensures { Verdict nodes.entry.store.now (GoesOn nodes.entry.store.now cell p) result }
 {
     if cell == 0 {
         return true;
     }
-    let n = nodes::length_of(store, cell / 2);
-    let own = nodes::length_of(store, p);
-    if own <= n {
+    let n = nodes.length_of(cell / 2);
+    let own = nodes.length_of(p);
+    let a = nodes.address_of(p);
+    if own <= n || 32 < own || a.bit_at::<HALF>(n) != cell % 2 {
         return false;
     }
-    if 32 < own {
-        return false;
-    }
-    let a = nodes::address_of(store, p);
-    if prefix::bit_at_high(a, n) != cell % 2 {
-        return false;
-    }
-    prefix::covers_high(nodes::address_of(store, cell / 2), n, a)
+    nodes.address_of(cell / 2).covers::<HALF>(n, a)
 }

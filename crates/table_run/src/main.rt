@@ -3,16 +3,15 @@
 // worked out beside it by another program, over plain lists.
 #![tactic(auto)]
 
-use prefix::Address;
-use search::Found;
+use prefix::{Address, HALF};
 use std::io;
 use updates::{Action, Prefix, Update};
-use verdicts::Verdict;
+use verdicts::UpdateError;
 
 const TURNS: u32 = 12_000;
 
 // What happened so far. The counts wrap, which no run comes near; the digest stands for every answer.
-#[derive(Clone, Copy)]
+#[derive(Clone, Copy, Debug, Default, PartialEq, Eq)]
 struct Totals {
     seed: u64,
     done: u64,
@@ -24,7 +23,7 @@ struct Totals {
 
 // One of eight patterns of bits, each nested in itself at every length.
 fn pattern(k: u64) -> Address {
-    prefix::from_ipv4((k % 8 * 613_566_756 % 4_294_967_296) as u32)
+    Address::from((k % 8 * 613_566_756 % 4_294_967_296) as u32)
 }
 
 fn digested(t: Totals, answer: u64) -> Totals {
@@ -54,19 +53,13 @@ fn update_for(seed: u64, turn: u32) -> Update {
     }
 }
 
-fn counted(t: Totals, v: Verdict) -> Totals {
+fn counted(t: Totals, answer: Result<(), UpdateError>) -> Totals {
     let mut u = t;
-    match v {
-        Verdict::Done => {
-            u.done = test_tools::one_more(t.done);
-        }
-        Verdict::Full => {
-            u.full = test_tools::one_more(t.full);
-        }
-        Verdict::NotHeld => {
-            u.not_held = test_tools::one_more(t.not_held);
-        }
-        Verdict::TooLong | Verdict::BadHop | Verdict::Unsound => {
+    match answer {
+        Ok(()) => u.done = test_tools::one_more(t.done),
+        Err(UpdateError::Full) => u.full = test_tools::one_more(t.full),
+        Err(UpdateError::NotHeld) => u.not_held = test_tools::one_more(t.not_held),
+        Err(UpdateError::TooLong | UpdateError::BadHop | UpdateError::Unsound) => {
             u.unsound = test_tools::one_more(t.unsound);
         }
     }
@@ -76,23 +69,20 @@ fn counted(t: Totals, v: Verdict) -> Totals {
 // The hop and length of the match, the nodes examined and the routes' part of the stored length, in one number.
 fn answer_of(store: &[u32], x: Address) -> u64 {
     let a = search::longest_match(store, x);
-    let found = a.found;
-    let Found::Match(hop, length) = found else {
+    let Some(m) = a.found else {
         return (a.examined as u64) * 7;
     };
-    (hop as u64) * 64 + (length as u64) + (a.examined as u64) * 7 + (a.least as u64) * 11
+    (m.hop as u64) * 64 + (m.length as u64) + (a.examined as u64) * 7 + (a.least as u64) * 11
 }
 
-fn turn_once(store: &mut [u32], k: u32, t: Totals) -> Totals {
-    let u = update_for(t.seed, k);
-    let v = updates::update_table(store, u);
-    let mut after = counted(t, v);
+fn turn_once(store: &mut [u32], turn: u32, t: Totals) -> Totals {
+    let u = update_for(t.seed, turn);
+    let mut after = counted(t, updates::update_table(store, u));
     after.seed = test_tools::next(test_tools::next(test_tools::next(test_tools::next(t.seed))));
     if !table::check(store) {
         after.unsound = test_tools::one_more(after.unsound);
     }
-    let x = prefix::trim_high(
-        pattern(test_tools::high(after.seed) % 64 / 8),
+    let x = pattern(test_tools::high(after.seed) % 64 / 8).trim::<HALF>(
         ((test_tools::high(after.seed) % 8) as u32) * 4 + 4,
     );
     digested(after, answer_of(store, x))
@@ -101,23 +91,17 @@ fn turn_once(store: &mut [u32], k: u32, t: Totals) -> Totals {
 fn run(store: &mut [u32]) -> Totals {
     let mut t = Totals {
         seed: 12_345,
-        done: 0,
-        full: 0,
-        not_held: 0,
-        unsound: 0,
-        digest: 0,
+        ..Totals::default()
     };
-    let mut k: u32 = 0;
-    while k < TURNS {
-        t = turn_once(store, k, t);
-        k += 1;
+    for turn in 0..TURNS {
+        t = turn_once(store, turn, t);
     }
     t
 }
 
 fn main(rt: HostRuntime) -> io::Result<()> {
     let mut store = [0xffff_ffffu32; 2048];
-    table::set_up(&mut store, 64);
+    table::set_up(&mut store, 64).unwrap();
     let t = run(&mut store);
     test_tools::show(&rt, b"done ", t.done)?;
     test_tools::show(&rt, b"full ", t.full)?;

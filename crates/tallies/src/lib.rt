@@ -3,10 +3,10 @@
 #![tactic(auto)]
 
 ghost use Rattle.std.specs.Prelude.{◌≡◌};
-ghost use Rattle.tallies.specs.Counting.{plus, minus, zero_tallies, after_hit, after_miss, after_drop, after_update, difference, held_sum, sum, InRange, Added};
+ghost use Rattle.tallies.specs.Counting.{zero_tallies, after_hit, after_miss, after_drop, after_update, difference, held_sum, sum, InRange, Added};
 
 #[repr(C)]
-#[derive(Clone, Copy)]
+#[derive(Clone, Copy, Debug, Default, PartialEq, Eq)]
 pub struct Tallies {
     pub hits: u32,
     pub misses: u32,
@@ -15,108 +15,95 @@ pub struct Tallies {
     pub removed: u32,
 }
 
-// n more than x, and n less: a counter that passes its end starts again from 0.
-fn more(x: u32, n: u32) -> u32
-    ensures { result ≡ plus x n }
-{
-    std::num::wrapping_add_u32(x, n)
-}
-
-fn less(x: u32, n: u32) -> u32
-    ensures { result ≡ minus x n }
-{
-    std::num::wrapping_sub_u32(x, n)
-}
-
-// The record to start from.
-pub fn zero() -> Tallies
-    ensures { result ≡ zero_tallies }
-{
-    Tallies {
-        hits: 0,
-        misses: 0,
-        drops: 0,
-        evicted: 0,
-        removed: 0,
+impl Tallies {
+    // The record to start from.
+    pub fn zero() -> Tallies
+        ensures { result ≡ zero_tallies }
+    {
+        Tallies::default()
     }
-}
 
-// After a lookup that hit.
-pub fn count_hit(t: Tallies) -> Tallies
-    ensures { result ≡ after_hit t }
-{
-    let mut next = t;
-    next.hits = more(t.hits, 1);
-    next
-}
-
-// After a lookup that missed, with a match, and gave up so many entries.
-pub fn count_miss(t: Tallies, evicted: u32) -> Tallies
-    ensures { result ≡ after_miss t evicted }
-{
-    let mut next = t;
-    next.misses = more(t.misses, 1);
-    next.evicted = more(t.evicted, evicted);
-    next
-}
-
-// After a lookup without a match.
-pub fn count_drop(t: Tallies) -> Tallies
-    ensures { result ≡ after_drop t }
-{
-    let mut next = t;
-    next.drops = more(t.drops, 1);
-    next
-}
-
-// After an accepted update that removed so many entries.
-pub fn count_removed(t: Tallies, removed: u32) -> Tallies
-    ensures { result ≡ after_update t removed }
-{
-    let mut next = t;
-    next.removed = more(t.removed, removed);
-    next
-}
-
-// What was counted between two readings.
-pub fn since(now: Tallies, then: Tallies) -> Tallies
-    ensures { result ≡ difference now then }
-{
-    Tallies {
-        hits: less(now.hits, then.hits),
-        misses: less(now.misses, then.misses),
-        drops: less(now.drops, then.drops),
-        evicted: less(now.evicted, then.evicted),
-        removed: less(now.removed, then.removed),
+    // After a lookup that hit.
+    pub fn count_hit(self) -> Tallies
+        ensures { result ≡ after_hit self }
+    {
+        Tallies {
+            hits: self.hits.wrapping_add(1),
+            ..self
+        }
     }
-}
 
-// The entries that a cache holds, by its tallies.
-pub fn held(t: Tallies) -> u32
-    ensures { result ≡ held_sum t }
-{
-    less(less(t.misses, t.evicted), t.removed)
-}
-
-// ---- the record lent
-
-// Two records, tally by tally.
-pub fn joined(t: Tallies, moved: Tallies) -> Tallies
-    ensures sums { result ≡ sum t moved }
-    ensures in_range { InRange t }
-{
-    Tallies {
-        hits: more(t.hits, moved.hits),
-        misses: more(t.misses, moved.misses),
-        drops: more(t.drops, moved.drops),
-        evicted: more(t.evicted, moved.evicted),
-        removed: more(t.removed, moved.removed),
+    // After a lookup that missed, with a match, and gave up so many entries.
+    pub fn count_miss(self, evicted: u32) -> Tallies
+        ensures { result ≡ after_miss self evicted }
+    {
+        Tallies {
+            misses: self.misses.wrapping_add(1),
+            evicted: self.evicted.wrapping_add(evicted),
+            ..self
+        }
     }
-}
 
-// What one call moved is added to the caller's record: of a hit, one.
-pub fn add(t: &mut Tallies, moved: Tallies)
-    ensures { Added t.old t.new moved }
-{
-    *t = joined(*t, moved);
+    // After a lookup without a match.
+    pub fn count_drop(self) -> Tallies
+        ensures { result ≡ after_drop self }
+    {
+        Tallies {
+            drops: self.drops.wrapping_add(1),
+            ..self
+        }
+    }
+
+    // After an accepted update that removed so many entries.
+    pub fn count_removed(self, removed: u32) -> Tallies
+        ensures { result ≡ after_update self removed }
+    {
+        Tallies {
+            removed: self.removed.wrapping_add(removed),
+            ..self
+        }
+    }
+
+    // What was counted since an earlier reading.
+    pub fn since(self, then: Tallies) -> Tallies
+        ensures { result ≡ difference self then }
+    {
+        Tallies {
+            hits: self.hits.wrapping_sub(then.hits),
+            misses: self.misses.wrapping_sub(then.misses),
+            drops: self.drops.wrapping_sub(then.drops),
+            evicted: self.evicted.wrapping_sub(then.evicted),
+            removed: self.removed.wrapping_sub(then.removed),
+        }
+    }
+
+    // The entries that a cache holds, by its tallies.
+    pub fn held(self) -> u32
+        ensures { result ≡ held_sum self }
+    {
+        self.misses
+            .wrapping_sub(self.evicted)
+            .wrapping_sub(self.removed)
+    }
+
+    // Two records, tally by tally.
+    pub fn joined(self, moved: Tallies) -> Tallies
+        ensures sums { result ≡ sum self moved }
+        ensures in_range { InRange self }
+    {
+        Tallies {
+            hits: self.hits.wrapping_add(moved.hits),
+            misses: self.misses.wrapping_add(moved.misses),
+            drops: self.drops.wrapping_add(moved.drops),
+            evicted: self.evicted.wrapping_add(moved.evicted),
+            removed: self.removed.wrapping_add(moved.removed),
+        }
+    }
+
+    // What one call moved is added to the caller's record: of a hit, one.
+    pub fn add(&mut self, moved: Tallies)
+        ensures { Added self.old self.new moved }
+    {
+        *self = self.joined(moved);
+    }
 }

@@ -1,5 +1,5 @@
 -- What an update of the table promises. Assumes nothing.
-use Rattle.std.specs.Prelude.{◌≡◌, cond, ◌||◌, List, ℕ, take, ltb, eqb}
+use Rattle.std.specs.Prelude.{◌≡◌, cond, ◌||◌, List, ℕ, take, ltb, eqb, Result, Ok, Err}
 use Rattle.prefix.specs.Bits.{Bits, bits}
 use Rattle.model.specs.Routes as model
 use Rattle.model.specs.Model.{refusal, too_long, bad_hop, highest_hop}
@@ -9,8 +9,8 @@ use Rattle.updates.specs.declared.Action.{Action}
 use Rattle.updates.specs.declared.Action.TheVariants.{Announce, Withdraw}
 use Rattle.updates.specs.declared.Update.{Update}
 use Rattle.verdicts.specs.Verdicts.{verdict_number, limits_of, TableAfter}
-use Rattle.verdicts.specs.declared.Verdict.{Verdict}
-use Rattle.verdicts.specs.declared.Verdict.TheVariants.{Done, TooLong, BadHop}
+use Rattle.verdicts.specs.declared.UpdateError.{UpdateError}
+use Rattle.verdicts.specs.declared.UpdateError.TheVariants.{TooLong, BadHop}
 
 -- ---- an update record as the model's
 
@@ -43,11 +43,11 @@ first_refusal u = cond (ltb 32 u.prefix.length) too_long (hop_refusal u.action)
 
 -- ---- the promise
 
-pub record TableUpdated (w w' : List ℕ) (u : Update) (r : Verdict) : Type 0 where
+pub record TableUpdated (w w' : List ℕ) (u : Update) (r : Result (Unit {0}) UpdateError) : Type 0 where
   -- on any store
   pub first : ¬ (first_refusal u ≡ 0) → (verdict_number r ≡ first_refusal u) × (w' ≡ w)
-  pub later : first_refusal u ≡ 0 → (¬ (r ≡ TooLong)) × (¬ (r ≡ BadHop))
+  pub later : first_refusal u ≡ 0 → (¬ (r ≡ Err TooLong)) × (¬ (r ≡ Err BadHop))
   -- on a sound one
   pub number : SoundTable w → verdict_number r ≡ refusal (limits_of w) (routes w) u.prefix.length (prefix_of_update u) (action_of u.action)
-  pub refused : SoundTable w → ¬ (r ≡ Done) → w' ≡ w
-  pub accepted : SoundTable w → r ≡ Done → TableAfter w w' (update_of u)
+  pub refused : SoundTable w → ¬ (r ≡ Ok tt) → w' ≡ w
+  pub accepted : SoundTable w → r ≡ Ok tt → TableAfter w w' (update_of u)

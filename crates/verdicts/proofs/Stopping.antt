@@ -6,6 +6,7 @@ use mathlib.Core.Option.{some}
 use Prim.Native.Nat.{ℕ, ◌-◌, ◌≤◌, ◌<◌}
 use native.Mathlib.Omega.{arith}
 use lib.ListN.{length, take}
+use Rattle.std.specs.Prelude.{Result, Ok, Err}
 use Rattle.prefix.specs.Bits.{Bits}
 use Rattle.prefix.specs.declared.Address.{Address}
 use Rattle.model.specs.Routes.{Action, Update, held}
@@ -17,8 +18,6 @@ use Rattle.sizes.specs.BothStores.{slot_word, word, Room}
 use Rattle.nodes.specs.Layout.{nodes_of, numbered, trie_of, Shaped}
 use Rattle.nodes.specs.Headers.{HeaderRead}
 use Rattle.nodes.specs.declared.Header.{Header}
-use Rattle.nodes.specs.declared.Shape.{Shape}
-use Rattle.nodes.specs.declared.Shape.TheVariants.{Fits, Broken}
 use Rattle.nodes.proofs.Coding.{numbered_node, none_numbered}
 use Rattle.prefix.specs.Addresses.{ipv4_bits}
 use Rattle.table.specs.Tables.{routes, SoundTable}
@@ -26,31 +25,21 @@ use Rattle.table.specs.Stops.{Stopped}
 use Rattle.table.specs.declared.Stop.{Stop}
 use Rattle.table.proofs.Reading.{length_sought, own_length}
 use Rattle.verdicts.specs.Verdicts.{limits_of, Answered, NodeAt}
-use Rattle.verdicts.specs.declared.Verdict.{Verdict}
-use Rattle.verdicts.specs.declared.Verdict.TheVariants.{Unsound}
+use Rattle.verdicts.specs.declared.UpdateError.{UpdateError}
+use Rattle.verdicts.specs.declared.UpdateError.TheVariants.{Unsound}
 use Rattle.verdicts.proofs.Verdicts.{any_length, unsound}
 
 -- ---- what the header's answer tells
 
-module _ (w : List ℕ) (shape : Shape) (read : HeaderRead w shape) where
-  pub broken : shape ≡ Broken → (n : ℕ) (u : Update) → Answered w w n u Unsound
-  broken e n u = unsound w w n u (λ s. (rw e at read) s.shaped)
+pub not_read : (w : List ℕ) (n : ℕ) (u : Update) → ¬ Shaped w → Answered w w n u (Err Unsound)
+not_read w n u f = unsound w w n u (λ s. f s.shaped)
 
-  module _ (h : Header) (told : shape ≡ Fits h) where
-    pub header_told : HeaderRead w (Fits h)
-    header_told = rw told at read
+module _ (w : List ℕ) (h : Header) (read : HeaderRead w (Ok h)) (X : Bits) (n : ℕ) (stop : Stop) (at : Stopped w X n stop) where
+  pub last_room : Room w stop.last
+  last_room = omega (arith, read.0.enough, read.0.nodes_fit, at.last_in)
 
-    pub header_shaped : Shaped w
-    header_shaped = header_told.0
-
-    pub header_nodes : h.nodes ≡ nodes_of w
-    header_nodes = header_told.2
-
-    pub last_room : (X : Bits) (n : ℕ) (stop : Stop) → Stopped w X n stop → Room w stop.last
-    last_room X n stop at = omega (arith, header_told.0.enough, header_told.0.nodes_fit, at.last_in)
-
-    pub last_at : (X : Bits) (n : ℕ) (stop : Stop) → Stopped w X n stop → ¬ (stop.last ≡ 0) → NodeAt w h stop.last
-    last_at X n stop at some_last = record { header = header_told; some_node = omega arith; in_use = omega (arith, at.last_in, header_told.2) }
+  pub last_at : ¬ (stop.last ≡ 0) → NodeAt w h stop.last
+  last_at some_last = record { header = read; some_node = omega arith; in_use = omega (arith, at.last_in, read.2) }
 
 -- ---- what the descent's answer tells
 
@@ -87,7 +76,7 @@ module _ (w : List ℕ) (a : Address) (n : ℕ) (short : n ≤ 32) (stop : Stop)
 module _ (w : List ℕ) (a : Address) (n : ℕ) (short : n ≤ 32) (stop : Stop) (at : Stopped w (ipv4_bits a) n stop) where
   module _ (some_last : ¬ (stop.last ≡ 0)) (own : ℕ) (is_own : own ≡ word w (slot_word stop.last 1)) where
     -- what is answered for the prefix of the last node
-    pub last_own : own ≡ n → (w' : List ℕ) (x : Action) (r : Verdict) → Answered w w' 0 (record { prefix = (trie_of w).prefix (stop.last - 1); action = x }) r
+    pub last_own : own ≡ n → (w' : List ℕ) (x : Action) (r : Result (Unit {0}) UpdateError) → Answered w w' 0 (record { prefix = (trie_of w).prefix (stop.last - 1); action = x }) r
         → Answered w w' n (record { prefix = take n (ipv4_bits a); action = x }) r
     last_own e w' x r g = record {
       late = g.late;

@@ -1,9 +1,14 @@
-// What an update of the table answers.
+// Why an update of the table is refused.
 #![tactic(auto)]
 
-#[derive(Clone, Copy)]
-pub enum Verdict {
-    Done,
+ghost use Rattle.std.specs.Prelude.{◌≡◌};
+ghost use Rattle.verdicts.specs.Verdicts.{update_error_number};
+ghost use Rattle.verdicts.specs.declared.UpdateError.TheVariants.{Unsound};
+
+use sizes::refusal::{Refusal, Unsound};
+
+#[derive(Clone, Copy, Debug, PartialEq, Eq)]
+pub enum UpdateError {
     // a length is above 32
     TooLong,
     // a hop is 0 or above 65,535
@@ -14,4 +19,26 @@ pub enum Verdict {
     NotHeld,
     // only on a store that is not sound
     Unsound,
+}
+
+impl Refusal for UpdateError {
+    ghost number = { update_error_number };
+
+    fn number(self) -> u32 {
+        match self {
+            UpdateError::TooLong => 1,
+            UpdateError::BadHop => 2,
+            UpdateError::Full => 3,
+            UpdateError::NotHeld => 4,
+            UpdateError::Unsound => 9,
+        }
+    }
+}
+
+impl From<Unsound> for UpdateError {
+    ghost from_gives = { λ _ e. e ≡ Unsound };
+
+    fn from(_e: Unsound) -> UpdateError {
+        UpdateError::Unsound
+    }
 }

@@ -9,10 +9,6 @@ use Rattle.nodes.specs.declared.Node.{Node}
 use Rattle.withdraw.specs.Writes.{pointed, hung, placed, closed, closed_both}
 
 module _ (w : List ℕ) (m cell p : ℕ) where
-  pub no_cell : cell ≡ 1 → w ≡ pointed w m cell p
-  unfolding pointed
-  no_cell e = rw (eq-eqb cell 1 e)
-
   pub far_cell : m < cell / 2 → w ≡ pointed w m cell p
   unfolding pointed
   far_cell h = rw (or_right _ _ (lt-ltb m (cell / 2) h))

@@ -6,6 +6,7 @@ use mathlib.Core.Option.{none, some}
 use Prim.Native.Nat.{ℕ, ◌+◌, ◌-◌, ◌*◌, ◌/◌, ◌%◌, ◌≤◌, ◌<◌}
 use native.Mathlib.Nat.{add-zero}
 use native.Mathlib.Omega.{arith}
+use Rattle.std.specs.Prelude.{Ok, Err}
 use Rattle.prefix.specs.Bits.{one?}
 use Rattle.prefix.proofs.Order.{below_<}
 use Rattle.trie.specs.Trie.{Kid, Dense, Held, Removed}
@@ -21,7 +22,7 @@ use Rattle.table.specs.Tables.{SoundTable}
 use Rattle.verdicts.specs.Verdicts.{TableAfter}
 use Rattle.withdraw.specs.Writes.{without, without_both}
 use Rattle.withdraw.specs.Steps.{withdrawal_at, RouteAt, Gone}
-use Rattle.verdicts.specs.declared.Verdict.TheVariants.{Done, Unsound}
+use Rattle.verdicts.specs.declared.UpdateError.TheVariants.{Unsound}
 use Rattle.verdicts.proofs.Linking.{CellIn, other_side}
 use Rattle.verdicts.proofs.Kept.{kept_all, room, mark_kept}
 use Rattle.withdraw.proofs.Leaving.{cut_kept, cut_trie, closed_kept, closed_trie, both_kept, both_trie}
@@ -69,11 +70,11 @@ module _ (w w' : List ℕ) (h : Header) (p : ℕ) (at : RouteAt w h p) where
     hanging : (q : ℕ) → CellIn (nodes_of w) q → word w (cell_word q) ≤ nodes_of w
     hanging = (kept_all w s).linked.child_in
 
-  gone : ((s : SoundTable w) → TableAfter w w' (withdrawal_at w p)) → Gone w w' p Done
+  gone : ((s : SoundTable w) → TableAfter w w' (withdrawal_at w p)) → Gone w w' p (Ok tt)
   gone f = record { late = late_done; done = λ s. refl; after = f }
 
   -- it can only be so on a store that is not sound
-  unsound : ¬ SoundTable w → Gone w w' p Unsound
+  unsound : ¬ SoundTable w → Gone w w' p (Err Unsound)
   unsound n = record { late = late_unsound; done = λ s. absurd (n s); after = λ s. absurd (n s) }
 
   dropped : (kid : ℕ) → w' ≡ without w h.nodes h.routes p kid → w' ≡ without w (nodes_of w) (route_count w) p kid
@@ -82,17 +83,17 @@ module _ (w w' : List ℕ) (h : Header) (p : ℕ) (at : RouteAt w h p) where
   -- ---- it has children
 
   module _ (left right : ℕ) (is-left : left ≡ word w (cell_word (2 * p))) (is_right : right ≡ word w (cell_word (2 * p + 1))) where
-    pub gone_right : left ≡ 0 → ¬ (right ≡ 0) → w' ≡ without w h.nodes h.routes p right → Gone w w' p Done
-    gone_right z n e = gone (λ s. rw (dropped right e) (one_less s right (rw is_right (hanging s (2 * p + 1) (λ z. omega arith, omega (arith, within)))) (
+    pub gone_right : left ≡ 0 → ¬ (right ≡ 0) → (kid : ℕ) → kid ≡ right → w' ≡ without w h.nodes h.routes p kid → Gone w w' p (Ok tt)
+    gone_right z n kid k e = gone (λ s. rw (dropped right (rw k at e)) (one_less s right (rw is_right (hanging s (2 * p + 1) (λ z. omega arith, omega (arith, within)))) (
         rw (numbered_node right (omega arith)) (withdraw_one (nodes_of w) s.trie s.branches (p - 1) (omega (arith, within, pos)) _ refl true (right - 1)
         (right_child ∙ rw (← is_right) (numbered_node right (omega arith))) (left_child ∙ rw (← is-left, z) none_numbered)))))
 
-    pub gone_left : ¬ (left ≡ 0) → right ≡ 0 → w' ≡ without w h.nodes h.routes p left → Gone w w' p Done
-    gone_left n z e = gone (λ s. rw (dropped left e) (one_less s left (rw is-left (hanging s (2 * p) (λ z. omega arith, omega (arith, within)))) (
+    pub gone_left : ¬ (left ≡ 0) → right ≡ 0 → (kid : ℕ) → kid ≡ left → w' ≡ without w h.nodes h.routes p kid → Gone w w' p (Ok tt)
+    gone_left n z kid k e = gone (λ s. rw (dropped left (rw k at e)) (one_less s left (rw is-left (hanging s (2 * p) (λ z. omega arith, omega (arith, within)))) (
         rw (numbered_node left (omega arith)) (withdraw_one (nodes_of w) s.trie s.branches (p - 1) (omega (arith, within, pos)) _ refl false (left - 1)
         (left_child ∙ rw (← is-left) (numbered_node left (omega arith))) (right_child ∙ rw (← is_right, z) none_numbered)))))
 
-    pub gone_hop : ¬ (left ≡ 0) → ¬ (right ≡ 0) → (u : List ℕ) → u ≡ put_mark w p 0 → w' ≡ put_counts u h.nodes (h.routes - 1) → Gone w w' p Done
+    pub gone_hop : ¬ (left ≡ 0) → ¬ (right ≡ 0) → (u : List ℕ) → u ≡ put_mark w p 0 → w' ≡ put_counts u h.nodes (h.routes - 1) → Gone w w' p (Ok tt)
     unfolding unhop_at
     gone_hop n k u e f = gone (λ s.
         let m = nodes_of w in
@@ -117,21 +118,21 @@ module _ (w w' : List ℕ) (h : Header) (p : ℕ) (at : RouteAt w h p) where
     cell_in : SoundTable w → CellIn (nodes_of w) cell
     cell_in s = rw is_up ((kept_all w s).linked.up_in p pos within)
 
-    pub gone_root : cell / 2 ≡ 0 → w' ≡ without w h.nodes h.routes p 0 → Gone w w' p Done
+    pub gone_root : cell / 2 ≡ 0 → w' ≡ without w h.nodes h.routes p 0 → Gone w w' p (Ok tt)
     gone_root z e = gone (λ s.
         let c : cell ≡ 0 = omega (arith, cell_in s) in
         rw (dropped 0 e) (one_less s 0 (omega arith) (rw none_numbered
         (withdraw_root (nodes_of w) s.trie s.branches (p - 1) (omega (arith, within, pos)) _ refl no_left no_right (sym up ∙ rw c cell_root)))))
 
     module _ (parent : ℕ) (is-parent : parent ≡ cell / 2) where
-      pub gone_far : h.nodes < parent → Gone w w' p Unsound
+      pub gone_far : h.nodes < parent → Gone w w' p (Err Unsound)
       gone_far l = unsound (λ s. omega (arith, (cell_in s).1, at.node.header.2))
 
       module _ (some-parent : ¬ (parent ≡ 0)) where
         up_kid : (trie_of w).up (p - 1) ≡ Kid (parent - 1) (one? (cell % 2))
         up_kid = let e : 2 * parent + cell % 2 ≡ cell = omega arith in sym up ∙ rw e at (cell_side parent (cell % 2) (omega arith) (omega arith))
 
-        pub gone_self : parent ≡ p → Gone w w' p Unsound
+        pub gone_self : parent ≡ p → Gone w w' p (Err Unsound)
         gone_self z = unsound (λ s.
             let l : p - 1 < nodes_of w = omega (arith, within, pos) in
             let o = s.trie.owned (p - 1) l in
@@ -141,7 +142,7 @@ module _ (w w' : List ℕ) (h : Header) (p : ℕ) (at : RouteAt w h p) where
         parent_in : SoundTable w → parent ≤ nodes_of w
         parent_in s = omega (arith, (cell_in s).1)
 
-        pub gone_leaf : (mark : ℕ) → mark ≡ word w (slot_word parent 2) → ¬ (mark ≡ 0) → w' ≡ without w h.nodes h.routes p 0 → Gone w w' p Done
+        pub gone_leaf : (mark : ℕ) → mark ≡ word w (slot_word parent 2) → ¬ (mark ≡ 0) → w' ≡ without w h.nodes h.routes p 0 → Gone w w' p (Ok tt)
         gone_leaf mark is-mark n e = gone (λ s.
             rw (dropped 0 e) (one_less s 0 (omega arith) (rw none_numbered
             (withdraw_leaf (nodes_of w) s.trie s.branches (p - 1) (omega (arith, within, pos)) _ refl no_left no_right (parent - 1) (one? (cell % 2)) (mark - 1) up_kid
@@ -157,7 +158,7 @@ module _ (w w' : List ℕ) (h : Header) (p : ℕ) (at : RouteAt w h p) where
               let c : cell_of (2 * parent + (1 - cell % 2)) ≡ Kid (parent - 1) (not (one? (cell % 2))) = rw (← other_side (cell % 2) (omega arith)) (cell_side parent (1 - cell % 2) (omega arith) (omega arith)) in
               sym (ap numbered is-other ∙ child_word w _ (λ z. omega arith) ∙ ap (trie_of w).child c)
 
-          pub gone_both : w' ≡ without_both w h.nodes h.routes p parent other → Gone w w' p Done
+          pub gone_both : w' ≡ without_both w h.nodes h.routes p parent other → Gone w w' p (Ok tt)
           unfolding without_both
           gone_both e = gone (λ s.
               let m = nodes_of w in

@@ -1,5 +1,5 @@
 -- What the steps of a withdrawal promise to each other. Assumes nothing.
-use Rattle.std.specs.Prelude.{◌≡◌, List, ℕ, ◌-◌, ◌<◌, take}
+use Rattle.std.specs.Prelude.{◌≡◌, List, ℕ, ◌-◌, ◌<◌, take, Result, Ok}
 use Rattle.prefix.specs.declared.Address.{Address}
 use Rattle.model.specs.Routes as model
 use Rattle.sizes.specs.BothStores.{slot_word, word}
@@ -8,8 +8,7 @@ use Rattle.nodes.specs.declared.Header.{Header}
 use Rattle.prefix.specs.Addresses.{ipv4_bits}
 use Rattle.table.specs.Tables.{SoundTable}
 use Rattle.verdicts.specs.Verdicts.{Late, TableAfter, NodeAt}
-use Rattle.verdicts.specs.declared.Verdict.{Verdict}
-use Rattle.verdicts.specs.declared.Verdict.TheVariants.{Done}
+use Rattle.verdicts.specs.declared.UpdateError.{UpdateError}
 
 abbrev pub withdrawal : Address → ℕ → model.Update
 withdrawal a n = record { prefix = take n (ipv4_bits a); action = model.withdraw }
@@ -25,7 +24,7 @@ pub record RouteAt (w : List ℕ) (h : Header) (p : ℕ) : Type 0 where
   pub is_route : ¬ (word w (slot_word p 2) ≡ 0)
 
 -- the route at node p is gone
-pub record Gone (w w' : List ℕ) (p : ℕ) (r : Verdict) : Type 0 where
+pub record Gone (w w' : List ℕ) (p : ℕ) (r : Result (Unit {0}) UpdateError) : Type 0 where
   pub late : Late r
-  pub done : SoundTable w → r ≡ Done
+  pub done : SoundTable w → r ≡ Ok tt
   pub after : SoundTable w → TableAfter w w' (withdrawal_at w p)

@@ -8,98 +8,93 @@ ghost use Rattle.withdraw.specs.Writes.{Nodes, without, without_both};
 ghost use Rattle.withdraw.specs.Steps.{withdrawal, withdrawal_at, RouteAt, Gone};
 ghost use Rattle.verdicts.specs.Verdicts.{Answered, NodeAt};
 
-use nodes::{Header, Shape};
-use prefix::Address;
-use verdicts::Verdict;
+use nodes::{Header, view};
+use prefix::ipv4::Prefix;
+use verdicts::UpdateError;
 
 mod closing;
 
-// The route of the first n bits of a, if it is held.
-pub fn withdraw(store: &mut [u32], a: Address, n: u32) -> Verdict
-    requires { n ≤ 32 }
-    ensures { Answered store.old store.new n (withdrawal a n) result }
+// The route of the prefix, if it is held.
+pub fn withdraw(store: &mut [u32], prefix: Prefix) -> Result<(), UpdateError>
+    ensures { Answered store.old store.new prefix.length (withdrawal prefix.address prefix.length) result }
 {
-    let Shape::Fits(h) = nodes::read_header(store) else {
-        return Verdict::Unsound;
+    let h = nodes::read_header(store)?;
+    let lent = view::Nodes {
+        store,
+        count: h.nodes,
     };
-    let stop = table::descend(store, h.nodes, a, n);
-    let p = stop.last;
-    if p == 0 {
-        return Verdict::NotHeld;
-    }
-    if nodes::length_of(store, p) != n {
-        return Verdict::NotHeld;
+    let p = table::descend(lent, prefix).last;
+    if p == 0 || nodes::length_of(store, p) != prefix.length {
+        return Err(UpdateError::NotHeld);
     }
     withdraw_at(store, h, p)
 }
 
 // The route at node p, if it is one.
-fn withdraw_at(store: &mut [u32], h: Header, p: u32) -> Verdict
-    requires { NodeAt store.old h p }
+fn withdraw_at(store: &mut [u32], h: Header, p: u32) -> Result<(), UpdateError>
+    requires node { NodeAt store.old h p }
     ensures { Answered store.old store.new 0 (withdrawal_at store.old p) result }
 {
     if nodes::mark_of(store, p) == 0 {
-        return Verdict::NotHeld;
+        return Err(UpdateError::NotHeld);
     }
     if h.routes == 0 {
-        return Verdict::Unsound;
+        return Err(UpdateError::Unsound);
     }
     remove(store, h, p)
 }
 
 // The route p: a branch if it has two nodes below it, else gone.
-fn remove(store: &mut [u32], h: Header, p: u32) -> Verdict
-    requires { RouteAt store.old h p }
+fn remove(store: &mut [u32], h: Header, p: u32) -> Result<(), UpdateError>
+    requires route { RouteAt store.old h p }
     ensures { Gone store.old store.new p result }
 {
-    let left = nodes::child_of(store, 2 * p);
-    let right = nodes::child_of(store, 2 * p + 1);
-    if left == 0 {
-        if right == 0 {
-            return remove_leaf(store, h, p);
+    match (
+        nodes::child_of(store, 2 * p),
+        nodes::child_of(store, 2 * p + 1),
+    ) {
+        (0, 0) => return remove_leaf(store, h, p),
+        (0, kid) | (kid, 0) => drop_node(store, h, p, kid),
+        _ => {
+            nodes::set_mark(store, p, 0);
+            nodes::set_counts(store, h.nodes, h.routes - 1);
         }
-        drop_node(store, h, p, right);
-        return Verdict::Done;
     }
-    if right == 0 {
-        drop_node(store, h, p, left);
-        return Verdict::Done;
-    }
-    nodes::set_mark(store, p, 0);
-    nodes::set_counts(store, h.nodes, h.routes - 1);
-    Verdict::Done
+    Ok(())
 }
 
 // The route p, a leaf. It hangs at the root, at a route, or at a branch, which then has no more use.
-fn remove_leaf(store: &mut [u32], h: Header, p: u32) -> Verdict
-    requires route_at { RouteAt store.old h p }
-    requires p_value { (word store.old (cell_word (2 * p)) ≡ 0) × (word store.old (cell_word (2 * p + 1)) ≡ 0) }
+fn remove_leaf(store: &mut [u32], h: Header, p: u32) -> Result<(), UpdateError>
+    requires route { RouteAt store.old h p }
+    requires no_left { word store.old (cell_word (2 * p)) ≡ 0 }
+    requires no_right { word store.old (cell_word (2 * p + 1)) ≡ 0 }
     ensures { Gone store.old store.new p result }
 {
     let cell = nodes::up_of(store, p);
     let parent = cell / 2;
     if parent == 0 {
         drop_node(store, h, p, 0);
-        return Verdict::Done;
+        return Ok(());
     }
-    if h.nodes < parent {
-        return Verdict::Unsound;
-    }
-    if parent == p {
-        return Verdict::Unsound;
+    if h.nodes < parent || parent == p {
+        return Err(UpdateError::Unsound);
     }
     if nodes::mark_of(store, parent) != 0 {
         drop_node(store, h, p, 0);
-        return Verdict::Done;
+        return Ok(());
     }
     let other = nodes::child_of(store, 2 * parent + (1 - cell % 2));
     drop_both(store, h, p, parent, other);
-    Verdict::Done
+    Ok(())
 }
 
 // Node p is no more, and its one child, or none, takes its cell.
+#[tactic(auto, unfolding(crate::specs::Writes::without))]
 fn drop_node(store: &mut [u32], h: Header, p: u32, kid: u32)
-    requires { Nodes store.old h.nodes × (0 < p) × (p ≤ h.nodes) × (0 < h.routes) }
+    requires nodes { Nodes store.old h.nodes }
+    requires some_node { 0 < p }
+    requires in_use { p ≤ h.nodes }
+    requires some_route { 0 < h.routes }
     ensures { store.new ≡ without store.old h.nodes h.routes p kid }
 {
     closing::cut_out(store, h.nodes, p, kid);
@@ -108,9 +103,13 @@ fn drop_node(store: &mut [u32], h: Header, p: u32, kid: u32)
 }
 
 // The leaf p and its parent are no more, and the parent's other child takes its cell.
+#[tactic(auto, unfolding(crate::specs::Writes::without_both))]
 fn drop_both(store: &mut [u32], h: Header, p: u32, parent: u32, other: u32)
-    requires nodes { Nodes store.old h.nodes × (1 < h.nodes) × (0 < h.routes) }
-    requires p_le_nodes { (p ≤ h.nodes) × (parent ≤ h.nodes) }
+    requires nodes { Nodes store.old h.nodes }
+    requires two_nodes { 1 < h.nodes }
+    requires some_route { 0 < h.routes }
+    requires in_use { p ≤ h.nodes }
+    requires parent_in_use { parent ≤ h.nodes }
     ensures { store.new ≡ without_both store.old h.nodes h.routes p parent other }
 {
     closing::cut_out(store, h.nodes, p, 0);

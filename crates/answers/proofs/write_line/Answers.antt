@@ -1,13 +1,17 @@
 -- `answers::write_line` meets its contract. Assumes nothing.
-use Rattle.answers.proofs.WritingLaws.{short_buffer, no_room, printed_done, printed_hit, printed_miss, printed_drop, printed_refused, printed_bad, printed_tallies}
-use borrow.Author.Rules.{rules}
+use Rattle.answers.proofs.WritingLaws.{no_room, printed_done, printed_hit, printed_miss, printed_drop, printed_refused, printed_bad, printed_tallies}
+use Rattle.std.proofs.Common.{rules, arith, length, ◌<◌, ◌+◌}
+use Rattle.answers.specs.Answers.{room}
+use Rattle.answers.proofs.write_line.Goals.{then-out-lt-ROOM-via-then-out-lt-ROOM, then-out-lt-ROOM-via-else-out-lt-ROOM+then-out-at}
 use Rattle.answers.proofs.write_line.Goals as goal
 
-pub returns-then-length-lt-ROOM : goal.returns-then-length-lt-ROOM
-returns-then-length-lt-ROOM c = search (rules, short_buffer)
-
-pub returns-then-length-at : goal.returns-then-length-at
-returns-then-length-at c = search (rules, no_room)
+pub returns-then-out-lt-ROOM : goal.returns-then-out-lt-ROOM
+returns-then-out-lt-ROOM c =
+    let short : length c.args.out.now < c.args.at + room = elim c.then-out-lt-ROOM.branch [
+      | then-out-lt-ROOM-via-then-out-lt-ROOM w ↦ omega arith
+      | then-out-lt-ROOM-via-else-out-lt-ROOM+then-out-at w ↦ omega arith
+    ] in
+    no_room _ _ _ short
 
 pub returns-in-Done : goal.returns-in-Done
 returns-in-Done c = search (rules, printed_done)

@@ -1,7 +1,12 @@
 -- `koprzywist::next_block` is safe. Assumes nothing.
+use Rattle.std.proofs.Common.{length-take-le}
 use native.Mathlib.Omega.{arith}
-use Rattle.koprzywist.proofs.Parts.{taken}
+use Rattle.koprzywist.proofs.Rounds.{answered_inside}
 use Rattle.koprzywist.proofs.next_block.Goals as goal
 
-pub slice_bounds-answer_block-end-2 : goal.slice_bounds-answer_block-end-2
-slice_bounds-answer_block-end-2 c = taken _ _ (omega arith)
+pub overflow_sub-n : goal.overflow_sub-n
+overflow_sub-n c = omega (arith, answered_inside _ c.in_ok-answered.ensures.is, length-take-le _ _ c.in-Some.ensures)
+
+pub copy_within-requires-clause-in_bounds : goal.copy_within-requires-clause-in_bounds
+copy_within-requires-clause-in_bounds c =
+    omega (arith, answered_inside _ c.in_ok-answered.ensures.is, length-take-le _ _ c.in-Some.ensures, c.in-Some.ensures, c.min-bytes.ensures)

@@ -8,10 +8,13 @@ pub loop-next-init : goal.loop-next-init
 loop-next-init c = (search rules, search rules, search rules, at_start)
 
 pub loop-next-smaller : goal.loop-next-smaller
-loop-next-smaller c = search (rules, step_onward)
+loop-next-smaller c = step_onward _ c.in-Some.ensures
 
 pub loop-next-preserved : goal.loop-next-preserved
-loop-next-preserved c = (search rules, search rules, search rules, search (rules, and_step))
+loop-next-preserved c = (search rules, search rules, search rules, and_step _ c.in-Some.ensures c.loop-next.invariant.3)
 
 pub returns : goal.returns
-returns c = (search (rules, lines_left), search (rules, stopped_there))
+returns c = record {
+  lines = lines_left c.in_default.ensures c.loop-next.invariant.3;
+  stopped = stopped_there c.in_default.ensures _ c.loop-next.invariant.2;
+}

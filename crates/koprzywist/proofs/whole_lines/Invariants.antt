@@ -10,7 +10,7 @@ invariant-loop-next l =
     (length l.table ≡ length l.initial.table)
     × (length l.cache ≡ length l.initial.cache)
     × (length l.out ≡ length l.initial.out)
-    × Lines l.block l.initial.table l.initial.cache l.initial.out l.initial.r l.table l.cache l.out l.r
+    × Lines l.block l.initial.table l.initial.cache l.initial.out l.initial.reached l.table l.cache l.out l.reached
 
 abbrev pub decreases-loop-next : goal.decreases-loop-next
-decreases-loop-next l = length l.block - l.r.at
+decreases-loop-next l = length l.block - l.reached.at

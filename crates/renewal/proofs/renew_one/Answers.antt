@@ -1,20 +1,17 @@
 -- `renewal::renew_one` meets its contract. Assumes nothing.
-use Rattle.renewal.proofs.Turning.{left_alone}
 use Rattle.renewal.proofs.Judging.{untouched, no_match, route_inside, own_withdrawn, stays_fresh}
 use borrow.Author.Rules.{rules}
 use Rattle.renewal.proofs.renew_one.Goals as goal
+use Rattle.renewal.proofs.renew_one.Goals.{then-s-via-then-s, then-s-via-else-s+then-withdrawn}
 
-pub returns-then-not-touches : goal.returns-then-not-touches
-returns-then-not-touches c = search (rules, left_alone, untouched)
+pub returns-then-not-touches-clause-turns : goal.returns-then-not-touches-clause-turns
+returns-then-not-touches-clause-turns c = search (rules, untouched)
 
-pub returns-in_default : goal.returns-in_default
-returns-in_default c = search (rules, no_match)
+pub returns-in_default-clause-turns : goal.returns-in_default-clause-turns
+returns-in_default-clause-turns c = search (rules, no_match)
 
-pub returns-then-s : goal.returns-then-s
-returns-then-s c = search (rules, route_inside)
+pub returns-then-s-clause-turns : goal.returns-then-s-clause-turns
+returns-then-s-clause-turns c = elim c.then-s.branch [ then-s-via-then-s w ↦ search (rules, route_inside) | then-s-via-else-s+then-withdrawn w ↦ search (rules, own_withdrawn) ]
 
-pub returns-then-withdrawn : goal.returns-then-withdrawn
-returns-then-withdrawn c = search (rules, own_withdrawn)
-
-pub returns : goal.returns
-returns c = search (rules, stays_fresh)
+pub returns-clause-turns : goal.returns-clause-turns
+returns-clause-turns c = search (rules, stays_fresh)

@@ -1,13 +1,12 @@
 -- `script::after_length` meets its contract. Assumes nothing.
-use borrow.Author.Rules.{rules}
 use Rattle.script.proofs.LineLaws.{length_only, length_and_hop, more_than_hop}
 use Rattle.script.proofs.after_length.Goals as goal
 
-pub returns-in_default : goal.returns-in_default
-returns-in_default c = search (rules, length_only)
+pub returns-in_err-hop : goal.returns-in_err-hop
+returns-in_err-hop c = rw c.from_residual.ensures (length_only _ _ _ _ _ c.in_err-hop.ensures)
 
 pub returns-then-is_over : goal.returns-then-is_over
-returns-then-is_over c = search (rules, length_and_hop)
+returns-then-is_over c = rw c.then_some.ensures (length_and_hop _ _ _ _ _ _ c.in_ok-hop.ensures _ c.is_over.ensures c.if-is_over.true)
 
 pub returns : goal.returns
-returns c = search (rules, more_than_hop)
+returns c = more_than_hop _ _ _ _ _ _ c.in_ok-hop.ensures _ c.is_over.ensures c.if-is_over.false

@@ -1,28 +1,40 @@
 -- `script::number` meets its contract: after digits of the value so far, the rest is read as it is from the start. Assumes nothing.
-use borrow.Author.Rules.{rules}
-use Rattle.script.proofs.NumberLaws.{counted_start, run_at_end, run_below, run_above, number_read, nothing_read, one_more_digit, number_too_large_from}
-use Rattle.script.proofs.number.Goals.{else-loop-i-test, then-loop-i-test+then-byte-lt48, then-loop-i-test+else-byte-lt48+then-byte-gt57}
+use Rattle.std.proofs.Common.{rules, ◌≡◌, [], drop}
+use Rattle.script.specs.Reading.{run}
+use Rattle.script.proofs.NumberLaws.{number_behind, counted_start, over_at_end, over_at_other, number_read, nothing_read, one_more_digit, number_too_large_from}
+use Rattle.script.proofs.number.Goals.{else-loop-byte-test, then-loop-byte-test+then-not-is_ascii_digit}
 use Rattle.script.proofs.number.Goals as goal
 
-pub loop-i-init : goal.loop-i-init
-loop-i-init c = (search rules, search rules, counted_start _ _)
+pub returns-in_err-byte-items : goal.returns-in_err-byte-items
+returns-in_err-byte-items c = rw c.from_residual.ensures (search (rules, number_behind))
+
+pub loop-byte-init : goal.loop-byte-init
+loop-byte-init c = (search rules, search rules, counted_start _ _)
 
 pub returns-then-largest-value : goal.returns-then-largest-value
-returns-then-largest-value c = search (rules, number_too_large_from)
+returns-then-largest-value c =
+    let (inside, _, rest, _) = c.in_ok-byte-items.ensures.lookup.0 in
+    number_too_large_from _ _ _ _ _ c.loop-byte.invariant.2 _ rest inside _ c.loop-byte.invariant.0 c.loop-byte-test.true (search rules) c.if-largest-value.true
 
-pub loop-i-preserved : goal.loop-i-preserved
-loop-i-preserved c = search (rules, one_more_digit)
+pub loop-byte-preserved : goal.loop-byte-preserved
+loop-byte-preserved c =
+    let (inside, _, rest, _) = c.in_ok-byte-items.ensures.lookup.0 in
+    (search rules, search rules, one_more_digit c.args.most _ _ _ _ c.loop-byte.invariant.2 _ rest inside _ c.loop-byte.invariant.0 c.loop-byte-test.true (search rules))
 
-pub returns-then-at-i : goal.returns-then-at-i
-returns-then-at-i c = elim c.loop-i-test.branch [
-  | else-loop-i-test w ↦ search (rules, number_read, run_at_end)
-  | then-loop-i-test+then-byte-lt48 w ↦ search (rules, number_read, run_below)
-  | then-loop-i-test+else-byte-lt48+then-byte-gt57 w ↦ search (rules, number_read, run_above)
-]
+pub returns-then-at-end : goal.returns-then-at-end
+returns-then-at-end c =
+    let (inside, _, rest, _) = c.in_ok-byte-items.ensures.lookup.0 in
+    let over : run (drop c.loop-byte.end c.args.block.now) ≡ [] = elim c.loop-byte-test.branch [
+      | else-loop-byte-test w ↦ over_at_end _ _ _ _ rest inside _ c.loop-byte.invariant.0 w.loop-byte-test.false
+      | then-loop-byte-test+then-not-is_ascii_digit w ↦ over_at_other _ _ _ _ rest inside _ c.loop-byte.invariant.0 w.loop-byte-test.true (search rules)
+    ] in
+    search (rules, number_read)
 
 pub returns : goal.returns
-returns c = elim c.loop-i-test.branch [
-  | else-loop-i-test w ↦ search (rules, nothing_read, run_at_end)
-  | then-loop-i-test+then-byte-lt48 w ↦ search (rules, nothing_read, run_below)
-  | then-loop-i-test+else-byte-lt48+then-byte-gt57 w ↦ search (rules, nothing_read, run_above)
-]
+returns c =
+    let (inside, _, rest, _) = c.in_ok-byte-items.ensures.lookup.0 in
+    let over : run (drop c.loop-byte.end c.args.block.now) ≡ [] = elim c.loop-byte-test.branch [
+      | else-loop-byte-test w ↦ over_at_end _ _ _ _ rest inside _ c.loop-byte.invariant.0 w.loop-byte-test.false
+      | then-loop-byte-test+then-not-is_ascii_digit w ↦ over_at_other _ _ _ _ rest inside _ c.loop-byte.invariant.0 w.loop-byte-test.true (search rules)
+    ] in
+    search (rules, nothing_read)

@@ -1,17 +1,12 @@
 -- `script::octet` meets its contract. Assumes nothing.
-use borrow.Author.Rules.{rules}
 use Rattle.script.proofs.AddressLaws.{octet_none, octet_read, octet_unmarked}
-use Rattle.script.proofs.LineEnds.{after_mark}
 use Rattle.script.proofs.octet.Goals as goal
 
-pub returns-in_default : goal.returns-in_default
-returns-in_default c = search (rules, octet_none)
+pub returns-in_err-octet : goal.returns-in_err-octet
+returns-in_err-octet c = rw c.from_residual.ensures (octet_none _ _ c.in_err-octet.ensures)
 
-pub overflow_add-result : goal.overflow_add-result
-overflow_add-result c = search (rules, after_mark)
-
-pub returns-then-is_mark : goal.returns-then-is_mark
-returns-then-is_mark c = search (rules, octet_read)
+pub returns-in_err-end : goal.returns-in_err-end
+returns-in_err-end c = rw c.from_residual-in_err-end.ensures (octet_unmarked _ _ _ c.in_ok-octet.ensures c.in_err-end.ensures)
 
 pub returns : goal.returns
-returns c = search (rules, octet_unmarked)
+returns c = octet_read _ _ _ c.in_ok-octet.ensures _ c.in_ok-end.ensures

@@ -1,23 +1,21 @@
 -- `withdraw::withdraw` meets its contract. Assumes nothing.
-use Rattle.verdicts.proofs.Stopping.{broken, header_shaped, header_nodes, last_room, last_at, last_own}
+use Rattle.verdicts.proofs.Stopping.{not_read, last_room, last_at, last_own}
 use Rattle.withdraw.proofs.Withdrawals.{none_contains, last_shorter}
 use borrow.Author.Rules.{rules}
 use Rattle.withdraw.proofs.withdraw.Goals as goal
+use Rattle.withdraw.proofs.withdraw.Goals.{then-p-eq0-via-then-p-eq0, then-p-eq0-via-else-p-eq0+then-length_of-prefix}
 
-pub returns-in_default : goal.returns-in_default
-returns-in_default c = search (rules, broken)
-
-pub descend-stop-requires : goal.descend-stop-requires
-descend-stop-requires c = search (rules, header_shaped, header_nodes)
+pub returns-in_err-h : goal.returns-in_err-h
+returns-in_err-h c = search (rules, not_read)
 
 pub returns-then-p-eq0 : goal.returns-then-p-eq0
-returns-then-p-eq0 c = search (rules, none_contains)
+returns-then-p-eq0 c = elim c.then-p-eq0.branch [
+  | then-p-eq0-via-then-p-eq0 w ↦ search (rules, none_contains)
+  | then-p-eq0-via-else-p-eq0+then-length_of-prefix w ↦ search (rules, last_shorter)
+]
 
 pub length_of-requires : goal.length_of-requires
 length_of-requires c = search (rules, last_room)
-
-pub returns-then-length_of-n : goal.returns-then-length_of-n
-returns-then-length_of-n c = search (rules, last_shorter)
 
 pub withdraw_at-requires : goal.withdraw_at-requires
 withdraw_at-requires c = search (rules, last_at)

@@ -1,16 +1,11 @@
 -- `cache::check::branch_ok` meets its contract. Assumes nothing.
-use Rattle.cache.proofs.SlotChecks.{branch_long, branch_loose, branch_left, branch_fine}
+use Rattle.entries.proofs.EntryLaws.{entry_size}
+use Rattle.slots.proofs.ReadLaws.{read_branch}
 use borrow.Author.Rules.{rules}
 use Rattle.cache.proofs.check.branch_ok.Goals as goal
 
-pub returns-then-length_of-branch_length : goal.returns-then-length_of-branch_length
-returns-then-length_of-branch_length c = search (rules, branch_long)
+pub returns-then-child_ok : goal.returns-then-child_ok
+returns-then-child_ok c = search (rules, entry_size, read_branch)
 
-pub returns-then-not-hangs : goal.returns-then-not-hangs
-returns-then-not-hangs c = search (rules, branch_loose)
-
-pub returns-then-not-child_ok : goal.returns-then-not-child_ok
-returns-then-not-child_ok c = search (rules, branch_left)
-
-pub returns : goal.returns
-returns c = search (rules, branch_fine)
+pub returns-else-child_ok : goal.returns-else-child_ok
+returns-else-child_ok c = search (rules, entry_size, read_branch)

@@ -4,13 +4,10 @@ use borrow.Author.Rules.{rules}
 use Rattle.cache.proofs.check.longer.Goals as goal
 
 pub returns-then-m-gt31 : goal.returns-then-m-gt31
-returns-then-m-gt31 c = search (rules, longer_none)
-
-pub returns-then-length_of-m : goal.returns-then-length_of-m
-returns-then-length_of-m c = search (rules, longer_short)
+returns-then-m-gt31 c = search (rules, longer_none, longer_short)
 
 pub returns-then-x-eq0 : goal.returns-then-x-eq0
 returns-then-x-eq0 c = search (rules, longer_entry)
 
-pub returns : goal.returns
-returns c = search (rules, longer_branch)
+pub returns-else-x-eq0 : goal.returns-else-x-eq0
+returns-else-x-eq0 c = search (rules, longer_branch)

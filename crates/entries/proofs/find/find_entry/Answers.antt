@@ -1,16 +1,13 @@
 -- `entries::find::find_entry` meets its contract. Assumes nothing.
-use Rattle.entries.proofs.FindLaws.{miss_empty, no_slot, no_such_slot, too_long, miss, hit}
+use Rattle.entries.proofs.FindLaws.{miss_empty, no_slot, too_long, miss, hit}
 use borrow.Author.Rules.{rules}
 use Rattle.entries.proofs.find.find_entry.Goals as goal
 
-pub returns-then-entries-eq0 : goal.returns-then-entries-eq0
-returns-then-entries-eq0 c = search (rules, miss_empty)
+pub returns-then-slots-eq0 : goal.returns-then-slots-eq0
+returns-then-slots-eq0 c = search (rules, miss_empty)
 
 pub returns-then-slot-eq0 : goal.returns-then-slot-eq0
 returns-then-slot-eq0 c = search (rules, no_slot)
-
-pub returns-then-entries-slot : goal.returns-then-entries-slot
-returns-then-entries-slot c = search (rules, no_such_slot)
 
 pub returns-then-n-gt32 : goal.returns-then-n-gt32
 returns-then-n-gt32 c = search (rules, too_long)

@@ -1,13 +1,10 @@
 -- `entries::find::step` meets its contract. Assumes nothing.
-use Rattle.entries.proofs.WalkLaws.{ends_entry, ends_outside, ends_miss, goes_on}
+use Rattle.entries.proofs.WalkLaws.{ends_here, ends_miss, goes_on}
 use borrow.Author.Rules.{rules}
 use Rattle.entries.proofs.find.step.Goals as goal
 
 pub returns-then-at-eq0 : goal.returns-then-at-eq0
-returns-then-at-eq0 c = search (rules, ends_entry)
-
-pub returns-then-entries-i : goal.returns-then-entries-i
-returns-then-entries-i c = search (rules, ends_outside)
+returns-then-at-eq0 c = search (rules, ends_here)
 
 pub returns-then-not-branch_covers : goal.returns-then-not-branch_covers
 returns-then-not-branch_covers c = search (rules, ends_miss)

@@ -1,7 +1,0 @@
--- `koprzywist::last_line` is safe. Assumes nothing.
-use native.Mathlib.Omega.{arith}
-use Rattle.koprzywist.proofs.Parts.{taken}
-use Rattle.koprzywist.proofs.last_line.Goals as goal
-
-pub slice_bounds-answer_block-end-2 : goal.slice_bounds-answer_block-end-2
-slice_bounds-answer_block-end-2 c = taken _ _ (omega arith)
