@@ -77,7 +77,7 @@ pub fn oldest(store: &[u32]) -> Result<Option<u32>, Unsound>
     if slots.count == 0 {
         return Ok(None);
     }
-    let Some(last) = entries::order::oldest(slots) else {
+    let Some(last) = entries::order::last_used(slots) else {
         return Err(Unsound);
     };
     Ok(Some(last))

@@ -79,19 +79,19 @@ module _ {w u w' : List ℕ} {n : ℕ} (k : ℕ) (s : Shaped w) (e : n ≡ entri
 
 -- ---- the least recently used
 
-oldest_is : (w : List ℕ) (r : ℕ) → r ≡ word w (slot_word 0 2) → SoundEntries w → 0 < entries_held w → Oldest w r
+pub oldest_is : (w : List ℕ) (r : ℕ) → r ≡ word w (slot_word 0 2) → SoundEntries w → 0 < entries_held w → Oldest w r
 unfolding entries
 oldest_is w r e S h =
     let z : entries_held w ≡ suc (entries_held w - 1) = omega arith in
     rw (e, read_prev w 0) (record { slot = oldest_slot S.slots z; is_last = oldest_last S.slots z })
 
-module _ (w : List ℕ) (n : ℕ) (are-held : n ≡ entries_held w) (k : ℕ) (is_k : k ≡ word w (slot_word 0 2)) where
+module _ (w : List ℕ) (n : ℕ) (are-held : n ≡ entries_held w) (k : ℕ) (is_k : SoundEntries w → 0 < entries_held w → Oldest w k) where
   pub oldest_found : ¬ (k ≡ 0) → k ≤ n → OldestOf w (Some k)
-  oldest_found ne l = ((omega arith, omega (arith, are-held)), λ S. oldest_is w k is_k S (omega (arith, are-held)))
+  oldest_found ne l = ((omega arith, omega (arith, are-held)), λ S. is_k S (omega (arith, are-held)))
 
   pub oldest_none : (k ≡ 0) ⊎ (¬ (k ≡ 0) × (n < k)) → OldestOf w None
   oldest_none either S = go (entries_held w) refl
     where
       go : (m : ℕ) → entries_held w ≡ m → entries_held w ≡ 0
       go zero e = e
-      go (suc m) e = absurd (omega (arith, (oldest_is w k is_k S (omega (arith, e))).slot, are-held))
+      go (suc m) e = absurd (omega (arith, (is_k S (omega (arith, e))).slot, are-held))

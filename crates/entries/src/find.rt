@@ -2,11 +2,13 @@
 ghost use Rattle.std.specs.Prelude.{◌≡◌, false, ◌/◌, ◌≤◌, ◌<◌, get_or};
 ghost use Rattle.prefix.specs.Addresses.{address_bits, ipv4_bits};
 ghost use Rattle.sizes.specs.Sizes.{largest_limit};
+ghost use Rattle.sizes.specs.BothStores.{Room};
 ghost use Rattle.lru_cache.specs.Slots.{cell_of};
 ghost use Rattle.entries.specs.Caches.{NearestTo};
 ghost use Rattle.entries.specs.Walks.{CommonWith, BranchCovers, Turned, Walked};
 
 use prefix::{Address, HALF};
+use sizes::slot;
 use slots::view::Slots;
 
 // No entry contains the address: one more than the most bits that any has in common with it, or 0 where there is none.
@@ -16,11 +18,11 @@ pub struct Absent {
 }
 
 // The leading bits that x has in common with the entry of slot i.
-pub fn common_with(slots: Slots, i: u32, x: Address) -> u32
-    requires in_use { i ≤ slots.count }
-    ensures { CommonWith slots.entry.store.now i (ipv4_bits x) result }
+pub fn common_with(store: &[u32], i: u32, x: Address) -> u32
+    requires room { Room store.now i }
+    ensures { CommonWith store.now i (ipv4_bits x) result }
 {
-    x.common_bits::<HALF>(slots.address_of(i), slots.length_of(i))
+    x.common_bits::<HALF>(slot::address_of(store, i), slots::length_of(store, i))
 }
 
 // Whether the branch of slot i, whose prefix is the first m bits of the slot's address, contains x.
@@ -87,7 +89,7 @@ pub fn find_entry(slots: Slots, x: Address) -> Result<u32, Absent>
     if 32 < n {
         return Err(Absent { past: 0 });
     }
-    let shared = common_with(slots, slot, x);
+    let shared = common_with(slots.store, slot, x);
     if shared < n {
         return Err(Absent { past: shared + 1 });
     }

@@ -3,10 +3,10 @@
 //
 // The words and their count stand side by side where they are written: a struct that holds the words as `&mut` was tried, and
 // once it is gone nothing says what became of the words that were lent to it.
-ghost use Rattle.std.specs.Prelude.{◌≡◌, ◌∷◌, ◌≤◌};
+ghost use Rattle.std.specs.Prelude.{◌≡◌, ◌∷◌, ◌≤◌, ◌<◌};
 ghost use Rattle.lru_cache.specs.Changes.{unlink as unlinked, push_front, move_links};
 ghost use Rattle.slots.specs.Layout.{entries_held, cache_of, Shaped};
-ghost use Rattle.entries.specs.Caches.{Slot, entry_in, others_in, SoundEntries, Kept, Holds, OldestOf};
+ghost use Rattle.entries.specs.Caches.{Slot, entry_in, others_in, SoundEntries, Kept, Holds, Oldest, OldestOf};
 ghost use Rattle.entries.specs.Changed.{InStore, Changed, Linked, between};
 
 use slots::view::Slots;
@@ -86,11 +86,19 @@ pub fn take_place(store: &mut [u32], entries: u32, s: u32, t: u32)
     put_between(store, entries, before, t, after);
 }
 
-// The slot of the least recently used entry.
-pub fn oldest(slots: Slots) -> Option<u32>
+// The slot in which the order of use ends: of a sound store that holds an entry, that of the least recently used one.
+pub fn oldest(store: &[u32]) -> u32
+    requires shaped { Shaped store.now }
+    ensures { SoundEntries store.now → 0 < entries_held store.now → Oldest store.now result }
+{
+    slots::prev_of(store, 0)
+}
+
+// The slot of the least recently used entry, if there is one.
+pub fn last_used(slots: Slots) -> Option<u32>
     ensures { OldestOf slots.entry.store.now result }
 {
-    let last = slots.prev_of(0);
+    let last = oldest(slots.store);
     if last == 0 || slots.count < last {
         return None;
     }

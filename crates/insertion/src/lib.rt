@@ -69,16 +69,11 @@ fn hang_first(store: &mut [u32], new: Entry)
 
 // The entry of slot s, in the cell of the node x, where the walk by its address stopped.
 fn hang_beside(store: &mut [u32], s: u32, x: u32, cell: u32, new: Entry)
-    requires shaped { Shaped store.old }
     requires beside { Beside store.old (ipv4_bits new.prefix.address) s x cell }
     ensures { Hung store.old store.new (prefix_bits new.prefix) new.hop }
 {
-    let held = Slots {
-        store,
-        count: s - 1,
-    };
     let p = new.prefix;
-    let m = find::common_with(held, x / 2, p.address);
+    let m = find::common_with(store, x / 2, p.address);
     slots::set_entry(store, s, p.address.to_ipv4(), p.length, new.hop);
     fork(store, s, find::side_of(p.address, s, m), cell, x, m);
 }

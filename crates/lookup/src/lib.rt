@@ -148,7 +148,7 @@ fn give_way(cache: &mut [u32], h: Header) -> Result<u32, Unsound>
         store: cache,
         count: h.entries,
     };
-    let Some(k) = entries::order::oldest(lent) else {
+    let Some(k) = entries::order::last_used(lent) else {
         return Err(Unsound);
     };
     removal::remove_entry(cache, h.entries, k);
