@@ -22,13 +22,13 @@ use sizes::{SetupError, Table, slot};
 
 pub mod view;
 
-const LIMIT: usize = 0;
+pub const LIMIT: usize = 0;
 
-const NODES: usize = 1;
+pub const NODES: usize = 1;
 
-const ROUTES: usize = 2;
+pub const ROUTES: usize = 2;
 
-const ROOT: usize = 1019;
+pub const ROOT: usize = 1019;
 
 // The fields of a node, by their place in its slot.
 const ADDRESS: usize = 0;

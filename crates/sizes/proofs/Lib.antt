@@ -1,2 +1,3 @@
 pub mod SizeLaws
 pub mod SetUpLaws
+pub mod PartLaws

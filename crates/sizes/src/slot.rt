@@ -1,5 +1,5 @@
 // A word of a slot, in either store: what is read and stored, and nothing of what it means.
-ghost use Rattle.std.specs.Prelude.{◌≡◌, ◌<◌, set, take};
+ghost use Rattle.std.specs.Prelude.{◌≡◌, ◌<◌, length, set, take};
 ghost use Rattle.prefix.specs.Bits.{bits};
 ghost use Rattle.prefix.specs.Addresses.{address_bits};
 ghost use Rattle.sizes.specs.BothStores.{slot_word, word, Room};
@@ -24,8 +24,17 @@ pub fn write(store: &mut [u32], slot: u32, field: usize, value: u32)
     requires in_slot { field < 8 }
     ensures { store.new ≡ set store.old (slot_word slot field) value }
 {
-    let at = SLOTS + WORDS_A_SLOT * (slot as usize) + field;
-    store[at] = value;
+    let start = SLOTS + WORDS_A_SLOT * (slot as usize);
+    put(&mut store[start..start + 8], field, value);
+}
+
+// One word of a slot, whose eight words are lent as a part of the store.
+fn put(words: &mut [u32], field: usize, value: u32)
+    requires a_slot { length words.old ≡ 8 }
+    requires in_slot { field < 8 }
+    ensures { words.new ≡ set words.old field value }
+{
+    words[field] = value;
 }
 
 // The address in word 0, where both stores have it.

@@ -140,7 +140,7 @@ pub fn descend(nodes: Nodes, sought: Prefix) -> Stop
     loop {
         match step(nodes, sought, w) {
             ControlFlow::Continue(next) => w = next,
-            ControlFlow::Break(stop) => return stop,
+            ControlFlow::Break(stop) => break stop,
         }
     }
 }

@@ -12,5 +12,5 @@ loop-next-smaller c = search (rules, turned_less)
 pub loop-next-preserved : goal.loop-next-preserved
 loop-next-preserved c = search (rules, turned_going)
 
-pub returns-in-Break : goal.returns-in-Break
-returns-in-Break c = search (rules, turned_over)
+pub returns : goal.returns
+returns c = search (rules, turned_over)
