@@ -19,7 +19,7 @@ use Rattle.script.proofs.FeedLaws.{no_feed_inside, feed_place, feed_inside}
 use Rattle.script.proofs.Callers.{ends_after}
 use Rattle.script.specs.declared.Line.{Line}
 use Rattle.script.specs.declared.Line.TheVariants.{Announce, Withdraw, Look, Bad}
-use Rattle.std.specs.Prelude.{Option, Some, None, unwrap_or}
+use Rattle.std.specs.Prelude.{Option, Some, None, Result, Ok, Err, MatchResult, ok_or}
 use Rattle.std.specs.Bool.{then_some}
 use Rattle.script.specs.declared.Found.{Found}
 use Rattle.script.specs.declared.Seen.{Seen}
@@ -27,34 +27,35 @@ use Rattle.script.specs.declared.Seen.{Seen}
 -- ---- the letter, after no number, one and two
 
 module _ (letter : ℕ) (l : List ℕ) (at to : ℕ) (same : line_end l to ≡ line_end l at) where
-  by_letter : (c : ℕ) (x : Line) → CallSeen l at (cond (only c (letter ∷ [])) x Bad) (then_some (eqb letter c) (record { line = x; to = to }))
+  by_letter : (c : ℕ) (x : Line) → CallSeen l at (cond (only c (letter ∷ [])) x Bad) (ok_or (then_some (eqb letter c) (record { line = x; to = to })) to)
   unfolding only
   by_letter c x =
       by_cases (eqb letter c)
       (λ e. rw e (record { is = record { its_line = refl; same_line = same } }))
-      (λ e. rw e (record { is = refl }))
+      (λ e. rw e (record { is = record { is_bad = refl; same_line = same } }))
 
-  look_by_letter : (a : ℕ) → CallSeen l at (lettered letter a (Some [])) (then_some (eqb letter 76) (record { line = Look a; to = to }))
+  look_by_letter : (a : ℕ) → CallSeen l at (lettered letter a (Some [])) (ok_or (then_some (eqb letter 76) (record { line = Look a; to = to })) to)
   unfolding call
   look_by_letter a = by_letter 76 (Look a)
 
-  withdraw_by_letter : (a n : ℕ) → CallSeen l at (lettered letter a (Some (n ∷ []))) (then_some (eqb letter 87) (record { line = Withdraw a n; to = to }))
+  withdraw_by_letter : (a n : ℕ) → CallSeen l at (lettered letter a (Some (n ∷ []))) (ok_or (then_some (eqb letter 87) (record { line = Withdraw a n; to = to })) to)
   unfolding call
   withdraw_by_letter a n = by_letter 87 (Withdraw a n)
 
-  announce_by_letter : (a n hop : ℕ) → CallSeen l at (lettered letter a (Some (n ∷ hop ∷ []))) (then_some (eqb letter 65) (record { line = Announce a n hop; to = to }))
+  announce_by_letter : (a n hop : ℕ) → CallSeen l at (lettered letter a (Some (n ∷ hop ∷ []))) (ok_or (then_some (eqb letter 65) (record { line = Announce a n hop; to = to })) to)
   unfolding call
   announce_by_letter a n hop = by_letter 65 (Announce a n hop)
 
 -- ---- a line of a known form
 
-no_call : {line : Line} {l : List ℕ} {at : ℕ} → line ≡ Bad → CallSeen l at line None
-no_call bad = record { is = bad }
+-- no call, of which nothing is passed
+no_call : {line : Line} {l : List ℕ} {at : ℕ} → line ≡ Bad → CallSeen l at line (Err at)
+no_call bad = record { is = record { is_bad = bad; same_line = refl } }
 
 -- a call that is seen from a later place of the line on
-seen_from : {line₁ line₂ : Line} {l : List ℕ} {at later : ℕ} (r : Option Seen) → line₁ ≡ line₂ → line_end l later ≡ line_end l at → CallSeen l later line₂ r → CallSeen l at line₁ r
-seen_from None is same S = record { is = is ∙ S.is }
-seen_from (Some seen) is same S = record { is = record { its_line = S.is.its_line ∙ sym is; same_line = S.is.same_line ∙ same } }
+seen_from : {line₁ line₂ : Line} {l : List ℕ} {at later : ℕ} (r : Result Seen ℕ) → line₁ ≡ line₂ → line_end l later ≡ line_end l at → CallSeen l later line₂ r → CallSeen l at line₁ r
+seen_from (Ok seen) is same S = record { is = record { its_line = S.is.its_line ∙ sym is; same_line = S.is.same_line ∙ same } }
+seen_from (Err to) is same S = record { is = record { is_bad = is ∙ S.is.is_bad; same_line = S.is.same_line ∙ same } }
 
 -- no numbers, and three numbers or more
 bad_none : (letter a : ℕ) {o : Option (List ℕ)} → o ≡ None → lettered letter a o ≡ Bad
@@ -93,14 +94,14 @@ module _ (letter a : ℕ) (l : List ℕ) (at : ℕ) where
   -- ---- `after_length`
 
   module _ (n : ℕ) where
-    pub length_only : None ≡ number_at largest l at → CallSeen l at (lettered letter a (both (Some n) (numbers largest (parts space (line_from l at))))) None
+    pub length_only : None ≡ number_at largest l at → CallSeen l at (lettered letter a (both (Some n) (numbers largest (parts space (line_from l at))))) (Err at)
     length_only h = no_call (bad_none letter a (unfold both in rw (no_number h)))
 
     module _ (f : Found) (told : Some f ≡ number_at largest l at) (b : Bool) (over-is : b ≡ over (line_from l f.end)) where
-      pub length_and_hop : b ≡ true → CallSeen l at (lettered letter a (both (Some n) (numbers largest (parts space (line_from l at))))) (then_some (eqb letter 65) (record { line = Announce a n f.value; to = f.end }))
+      pub length_and_hop : b ≡ true → CallSeen l at (lettered letter a (both (Some n) (numbers largest (parts space (line_from l at))))) (ok_or (then_some (eqb letter 65) (record { line = Announce a n f.value; to = f.end })) f.end)
       length_and_hop h = rw (last_number f told (sym over-is ∙ h)) (unfold both in announce_by_letter letter l at f.end (end_behind largest l at f told) a n f.value)
 
-      pub more_than_hop : b ≡ false → CallSeen l at (lettered letter a (both (Some n) (numbers largest (parts space (line_from l at))))) None
+      pub more_than_hop : b ≡ false → CallSeen l at (lettered letter a (both (Some n) (numbers largest (parts space (line_from l at))))) (Err at)
       more_than_hop h =
           no_call
           (by_cases (marked space (drop f.end l))
@@ -109,17 +110,17 @@ module _ (letter a : ℕ) (l : List ℕ) (at : ℕ) where
 
   -- ---- `after_address`
 
-  pub address_only : None ≡ number_at largest l at → CallSeen l at (lettered letter a (numbers largest (parts space (line_from l at)))) None
+  pub address_only : None ≡ number_at largest l at → CallSeen l at (lettered letter a (numbers largest (parts space (line_from l at)))) (Err at)
   address_only h = no_call (bad_none letter a (no_number h))
 
   module _ (f : Found) (told : Some f ≡ number_at largest l at) (b : Bool) (over-is : b ≡ over (line_from l f.end)) where
-    pub address_and_length : b ≡ true → CallSeen l at (lettered letter a (numbers largest (parts space (line_from l at)))) (then_some (eqb letter 87) (record { line = Withdraw a f.value; to = f.end }))
+    pub address_and_length : b ≡ true → CallSeen l at (lettered letter a (numbers largest (parts space (line_from l at)))) (ok_or (then_some (eqb letter 87) (record { line = Withdraw a f.value; to = f.end })) f.end)
     address_and_length h = rw (last_number f told (sym over-is ∙ h)) (withdraw_by_letter letter l at f.end (end_behind largest l at f told) a f.value)
 
-    pub address_length_other : b ≡ false → None ≡ past space l f.end → CallSeen l at (lettered letter a (numbers largest (parts space (line_from l at)))) None
+    pub address_length_other : b ≡ false → None ≡ past space l f.end → CallSeen l at (lettered letter a (numbers largest (parts space (line_from l at)))) (Err at)
     address_length_other h k = no_call (bad_none letter a (other_number f told (sym over-is ∙ h) (no_mark_there space l f.end k)))
 
-    pub address_length_more : (next : ℕ) (r : Option Seen) → Some next ≡ past space l f.end
+    pub address_length_more : (next : ℕ) (r : Result Seen ℕ) → Some next ≡ past space l f.end
         → CallSeen l next (lettered letter a (both (Some f.value) (numbers largest (parts space (line_from l next))))) r
         → CallSeen l at (lettered letter a (numbers largest (parts space (line_from l at)))) r
     address_length_more next r k S =
@@ -171,7 +172,7 @@ module _ (letter : ℕ) (l : List ℕ) (at : ℕ) where
   no_address_there : address (before space (line_from l at)) ≡ None → fields ((letter ∷ []) ∷ parts space (line_from l at)) ≡ Bad
   no_address_there h = let (ps, is) = fields_of (letter ∷ []) space (line_from l at) in rw (is, h) (call_no_address (letter ∷ []) (numbers largest ps))
 
-  pub letter_only : AddressRead l at None → CallSeen l at (fields ((letter ∷ []) ∷ parts space (line_from l at))) None
+  pub letter_only : AddressRead l at None → CallSeen l at (fields ((letter ∷ []) ∷ parts space (line_from l at))) (Err at)
   letter_only R = no_call (no_address_there R.is)
 
   module _ (f : Found) (R : AddressRead l at (Some f)) (b : Bool) (over-is : b ≡ over (line_from l f.end)) where
@@ -185,7 +186,7 @@ module _ (letter : ℕ) (l : List ℕ) (at : ℕ) where
       behind_field : line_from l f.end ≡ drop (length (before space (line_from l at))) (line_from l at)
       behind_field = rw place (line_later l at (length (before space (line_from l at))) (before_within space (line_from l at)))
 
-    pub letter_address : b ≡ true → CallSeen l at (fields ((letter ∷ []) ∷ parts space (line_from l at))) (then_some (eqb letter 76) (record { line = Look f.value; to = f.end }))
+    pub letter_address : b ≡ true → CallSeen l at (fields ((letter ∷ []) ∷ parts space (line_from l at))) (ok_or (then_some (eqb letter 76) (record { line = Look f.value; to = f.end })) f.end)
     letter_address h =
         let shut = closed_over space (line_from l f.end) (sym over-is ∙ h) in
         let last : over (drop (length (before space (line_from l at))) (line_from l at)) ≡ true = rw (← behind_field shut) (sym over-is ∙ h) in
@@ -195,7 +196,7 @@ module _ (letter : ℕ) (l : List ℕ) (at : ℕ) where
     marked_there : marked space (line_from l f.end) ≡ marked space (drop f.end l)
     marked_there = unfold line_from in marked_before space feed (drop f.end l) (λ z. omega arith)
 
-    pub letter_address_more : (next : ℕ) (r : Option Seen) → Some next ≡ past space l f.end
+    pub letter_address_more : (next : ℕ) (r : Result Seen ℕ) → Some next ≡ past space l f.end
         → CallSeen l next (lettered letter f.value (numbers largest (parts space (line_from l next)))) r
         → CallSeen l at (fields ((letter ∷ []) ∷ parts space (line_from l at))) r
     letter_address_more next r k S =
@@ -211,7 +212,7 @@ module _ (letter : ℕ) (l : List ℕ) (at : ℕ) where
         (rw (parts_to_mark space (line_from l at) marked_here, ← beyond, fields_two (letter ∷ []) (before space (line_from l at)) (parts space (line_from l next)) f.value (its_address_is shut)))
         ends S
 
-    pub letter_address_other : b ≡ false → None ≡ past space l f.end → CallSeen l at (fields ((letter ∷ []) ∷ parts space (line_from l at))) None
+    pub letter_address_other : b ≡ false → None ≡ past space l f.end → CallSeen l at (fields ((letter ∷ []) ∷ parts space (line_from l at))) (Err at)
     letter_address_other h k =
         no_call (no_address_there (R.is.its_address ∙ rw (closed_of space (line_from l f.end) (sym over-is ∙ h) (marked_there ∙ no_mark_there space l f.end k))))
 
@@ -273,14 +274,14 @@ marked_is m [] h = absurd (true≢false (sym h))
 marked_is m (b ∷ t) h = rw (eqb-true b m h)
 
 module _ (l : List ℕ) (at : ℕ) where
-  empty_line : line_from l at ≡ [] → CallSeen l at (fields (parts space (line_from l at))) None
+  empty_line : line_from l at ≡ [] → CallSeen l at (fields (parts space (line_from l at))) (Err at)
   empty_line h = no_call (rw h fields_empty)
 
-  pub fields_at_end : length l ≤ at → CallSeen l at (fields (parts space (line_from l at))) None
+  pub fields_at_end : length l ≤ at → CallSeen l at (fields (parts space (line_from l at))) (Err at)
   fields_at_end h = empty_line (line_at_end l at h)
 
   module _ (inside : at < length l) where
-    pub fields_at_feed : get_or l at 0 ≡ feed → CallSeen l at (fields (parts space (line_from l at))) None
+    pub fields_at_feed : get_or l at 0 ≡ feed → CallSeen l at (fields (parts space (line_from l at))) (Err at)
     fields_at_feed h = empty_line (line_at_feed l at inside h)
 
     module _ (goes_on : get_or l at 0 ≡ feed → ⊥) where
@@ -290,10 +291,10 @@ module _ (l : List ℕ) (at : ℕ) where
       second_byte : marked space (line_from l (at + 1)) ≡ marked space (drop (at + 1) l)
       second_byte = unfold line_from in marked_before space feed (drop (at + 1) l) (λ z. omega arith)
 
-      pub fields_no_letter : None ≡ past space l (at + 1) → CallSeen l at (fields (parts space (line_from l at))) None
+      pub fields_no_letter : None ≡ past space l (at + 1) → CallSeen l at (fields (parts space (line_from l at))) (Err at)
       fields_no_letter h = no_call (rw first_byte (no_space (get_or l at 0) (line_from l (at + 1)) (second_byte ∙ no_mark_there space l (at + 1) h)))
 
-      pub fields_read : (next : ℕ) (r : Option Seen) → Some next ≡ past space l (at + 1) → CallSeen l next (fields ((get_or l at 0 ∷ []) ∷ parts space (line_from l next))) r → CallSeen l at (fields (parts space (line_from l at))) r
+      pub fields_read : (next : ℕ) (r : Result Seen ℕ) → Some next ≡ past space l (at + 1) → CallSeen l next (fields ((get_or l at 0 ∷ []) ∷ parts space (line_from l next))) r → CallSeen l at (fields (parts space (line_from l at))) r
       fields_read next r h S =
           let (there, place) = mark_there space l (at + 1) h in
           let spaced : line_from l (at + 1) ≡ space ∷ drop 1 (line_from l (at + 1)) = marked_is space (line_from l (at + 1)) (second_byte ∙ there) in
@@ -305,9 +306,9 @@ module _ (l : List ℕ) (at : ℕ) where
 
 -- ---- `read_fields`
 
-pub bad_or_seen : (l : List ℕ) (at : ℕ) (line : Line) (r : Option Seen) → CallSeen l at line r → SeenTo l at line (unwrap_or r (record { line = Bad; to = at }))
-bad_or_seen l at line None S = record { its_line = sym S.is; same_line = refl }
-bad_or_seen l at line (Some seen) S = S.is
+pub bad_or_seen : (l : List ℕ) (at : ℕ) (line : Line) (r : Result Seen ℕ) → CallSeen l at line r → MatchResult r (SeenTo l at line) (λ to. SeenTo l at line (record { line = Bad; to = to }))
+bad_or_seen l at line (Ok seen) S = S.is
+bad_or_seen l at line (Err to) S = record { its_line = sym S.is.is_bad; same_line = S.is.same_line }
 
 -- ---- `read_line`
 

@@ -78,7 +78,7 @@ pub counted_start : (l : List ℕ) (at : ℕ) → Counted l at 0 at
 counted_start l at = record { value = refl; end = refl }
 
 module _ (l : List ℕ) (i : ℕ) where
-  run_at_end : length l ≤ i → run (drop i l) ≡ []
+  pub run_at_end : length l ≤ i → run (drop i l) ≡ []
   unfolding run
   run_at_end h = rw (drop_of_length-le l h)
 

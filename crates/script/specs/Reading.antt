@@ -1,5 +1,5 @@
 -- What the functions of the reader answer at a place of a block. Assumes nothing.
-use Rattle.std.specs.Prelude.{ℕ, ◌+◌, ◌≤◌, ◌≡◌, Bool, true, false, cond, List, [], ◌∷◌, length, drop, eqb, ltb, Option, Some, None, MatchOption}
+use Rattle.std.specs.Prelude.{ℕ, ◌+◌, ◌≤◌, ◌≡◌, Bool, true, false, cond, List, [], ◌∷◌, length, drop, eqb, ltb, Option, Some, None, MatchOption, Result, MatchResult}
 use Rattle.script.specs.Blocks.{before, line_from, line_end}
 use Rattle.script.specs.Lines.{digit, number, parts, both, numbers, address, call, space, point}
 use Rattle.script.specs.declared.Found.{Found}
@@ -92,6 +92,11 @@ pub record SeenTo (l : List ℕ) (at : ℕ) (line : Line) (seen : Seen) : Type 0
   pub its_line : seen.line ≡ line
   pub same_line : line_end l seen.to ≡ line_end l at
 
--- so is a call; any other line is bad
-pub record CallSeen (l : List ℕ) (at : ℕ) (line : Line) (r : Option Seen) : Type 0 where
-  pub is : MatchOption r (line ≡ Bad) (SeenTo l at line)
+-- the line is bad, up to such a place
+pub record BadTo (l : List ℕ) (at : ℕ) (line : Line) (to : ℕ) : Type 0 where
+  pub is_bad : line ≡ Bad
+  pub same_line : line_end l to ≡ line_end l at
+
+-- a call is read so; any other line is bad so
+pub record CallSeen (l : List ℕ) (at : ℕ) (line : Line) (r : Result Seen ℕ) : Type 0 where
+  pub is : MatchResult r (SeenTo l at line) (BadTo l at line)

@@ -118,7 +118,8 @@ fn address(block: &[u8], at: usize) -> Option<Found>
 
 // ---- lines
 
-// What was read of a line, and a place up to which it has no line feed: the search for it goes on from there.
+// What was read of a line, and a place up to which it has no line feed: the search for it goes on from there. Of a line that is no
+// call, the functions below answer such a place alone.
 #[derive(Clone, Copy, Debug, PartialEq, Eq)]
 struct Seen {
     line: Line,
@@ -126,58 +127,84 @@ struct Seen {
 }
 
 // From the second number on, which is the last.
-fn after_length(block: &[u8], letter: u8, address: u32, length: u32, at: usize) -> Option<Seen>
+fn after_length(
+    block: &[u8],
+    letter: u8,
+    address: u32,
+    length: u32,
+    at: usize,
+) -> Result<Seen, usize>
     ensures { CallSeen block.now at (lettered letter address (both (Some length) (numbers largest (parts space (line_from block.now at))))) result }
 {
-    let hop = number(block, at, LARGEST)?;
+    let Some(hop) = number(block, at, LARGEST) else {
+        return Err(at);
+    };
     if is_over(block, hop.end) {
-        return (letter == b'A').then_some(Seen {
-            line: Line::Announce(address, length, hop.value),
-            to: hop.end,
-        });
+        return (letter == b'A')
+            .then_some(Seen {
+                line: Line::Announce(address, length, hop.value),
+                to: hop.end,
+            })
+            .ok_or(hop.end);
     }
-    None
+    Err(at)
 }
 
 // From the first number on.
-fn after_address(block: &[u8], letter: u8, address: u32, at: usize) -> Option<Seen>
+fn after_address(block: &[u8], letter: u8, address: u32, at: usize) -> Result<Seen, usize>
     ensures { CallSeen block.now at (lettered letter address (numbers largest (parts space (line_from block.now at)))) result }
 {
-    let length = number(block, at, LARGEST)?;
+    let Some(length) = number(block, at, LARGEST) else {
+        return Err(at);
+    };
     if is_over(block, length.end) {
-        return (letter == b'W').then_some(Seen {
-            line: Line::Withdraw(address, length.value),
-            to: length.end,
-        });
+        return (letter == b'W')
+            .then_some(Seen {
+                line: Line::Withdraw(address, length.value),
+                to: length.end,
+            })
+            .ok_or(length.end);
     }
-    let next = past(block, length.end, SPACE)?;
+    let Some(next) = past(block, length.end, SPACE) else {
+        return Err(at);
+    };
     after_length(block, letter, address, length.value, next)
 }
 
 // From the address on.
-fn after_letter(block: &[u8], letter: u8, at: usize) -> Option<Seen>
+fn after_letter(block: &[u8], letter: u8, at: usize) -> Result<Seen, usize>
     ensures { CallSeen block.now at (fields ((letter ∷ []) ∷ parts space (line_from block.now at))) result }
 {
-    let address = address(block, at)?;
+    let Some(address) = address(block, at) else {
+        return Err(at);
+    };
     if is_over(block, address.end) {
-        return (letter == b'L').then_some(Seen {
-            line: Line::Look(address.value),
-            to: address.end,
-        });
+        return (letter == b'L')
+            .then_some(Seen {
+                line: Line::Look(address.value),
+                to: address.end,
+            })
+            .ok_or(address.end);
     }
-    let next = past(block, address.end, SPACE)?;
+    let Some(next) = past(block, address.end, SPACE) else {
+        return Err(at);
+    };
     after_address(block, letter, address.value, next)
 }
 
 // The call that the fields of a line make, whatever its length.
-fn call(block: &[u8], at: usize) -> Option<Seen>
+fn call(block: &[u8], at: usize) -> Result<Seen, usize>
     ensures { CallSeen block.now at (fields (parts space (line_from block.now at))) result }
 {
-    let letter = *block.get(at)?;
+    let Some(&letter) = block.get(at) else {
+        return Err(at);
+    };
     if letter == FEED {
-        return None;
+        return Err(at);
     }
-    let next = past(block, at + 1, SPACE)?;
+    let Some(next) = past(block, at + 1, SPACE) else {
+        return Err(at);
+    };
     after_letter(block, letter, next)
 }
 
@@ -185,10 +212,13 @@ fn call(block: &[u8], at: usize) -> Option<Seen>
 fn read_fields(block: &[u8], at: usize) -> Seen
     ensures { SeenTo block.now at (fields (parts space (line_from block.now at))) result }
 {
-    call(block, at).unwrap_or(Seen {
-        line: Line::Bad,
-        to: at,
-    })
+    match call(block, at) {
+        Ok(seen) => seen,
+        Err(to) => Seen {
+            line: Line::Bad,
+            to,
+        },
+    }
 }
 
 // What a line asks for, and where its line feed is.

@@ -2,14 +2,14 @@
 use Rattle.script.proofs.LineLaws.{letter_only, letter_address, letter_address_more, letter_address_other}
 use Rattle.script.proofs.after_letter.Goals as goal
 
-pub returns-in_err-address : goal.returns-in_err-address
-returns-in_err-address c = rw c.from_residual.ensures (letter_only _ _ _ c.in_err-address.ensures)
+pub returns-in_default : goal.returns-in_default
+returns-in_default c = letter_only _ _ _ c.in_default.ensures
 
 pub returns-then-is_over : goal.returns-then-is_over
-returns-then-is_over c = rw c.then_some.ensures (letter_address _ _ _ _ c.in_ok-address.ensures _ c.is_over.ensures c.if-is_over.true)
+returns-then-is_over c = rw (c.ok_or.ensures.value, c.then_some.ensures) (letter_address _ _ _ _ c.in-Some.ensures _ c.is_over.ensures c.if-is_over.true)
 
-pub returns-in_err-next : goal.returns-in_err-next
-returns-in_err-next c = rw c.from_residual-in_err-next.ensures (letter_address_other _ _ _ _ c.in_ok-address.ensures _ c.is_over.ensures c.if-is_over.false c.in_err-next.ensures)
+pub returns-in_default-past : goal.returns-in_default-past
+returns-in_default-past c = letter_address_other _ _ _ _ c.in-Some.ensures _ c.is_over.ensures c.if-is_over.false c.in_default-past.ensures
 
 pub returns : goal.returns
-returns c = letter_address_more _ _ _ _ c.in_ok-address.ensures _ c.is_over.ensures _ _ c.in_ok-next.ensures c.after_address.ensures
+returns c = letter_address_more _ _ _ _ c.in-Some.ensures _ c.is_over.ensures _ _ c.in-Some-past.ensures c.after_address.ensures

@@ -2,5 +2,8 @@
 use Rattle.script.proofs.LineLaws.{bad_or_seen}
 use Rattle.script.proofs.read_fields.Goals as goal
 
-pub returns : goal.returns
-returns c = rw c.unwrap_or.ensures (bad_or_seen _ _ _ _ c.call.ensures)
+pub returns-in-Ok : goal.returns-in-Ok
+returns-in-Ok c = bad_or_seen _ _ _ _ c.in-Ok.ensures
+
+pub returns-in-Err : goal.returns-in-Err
+returns-in-Err c = bad_or_seen _ _ _ _ c.in-Err.ensures
