@@ -8,7 +8,7 @@
 
 ghost use Rattle.std.specs.Prelude.{◌≡◌};
 ghost use Rattle.sizes.specs.Sizes.{entries_for, sizing_number, sizing_entries};
-ghost use Rattle.tallies.specs.Counting.{difference as between, held_sum};
+ghost use Rattle.tallies.specs.Counting.{zero_tallies, difference as between, held_sum};
 ghost use Rattle.table.specs.Tables.{TableSetUp};
 ghost use Rattle.cache.specs.Calls.{CacheSetUp};
 ghost use Rattle.updates.specs.declared.Action.TheVariants.{Announce, Withdraw};
@@ -17,7 +17,7 @@ ghost use Rattle.c_library.specs.Promises.{SetUpTold, TableSound, PairSound, Loo
 
 use lookup::Answer;
 use sizes::refusal;
-use sizes::refusal::Refusal as _;
+use sizes::refusal::{Refusal as _, Unsound};
 use tallies::Tallies;
 use updates::{Action, Update};
 
@@ -95,11 +95,18 @@ fn look_up(table: &[u32], cache: &mut [u32], address: u32, answer: &mut [u32; 5]
         }
         Err(unsound) => {
             *answer = [0; 5];
-            Told {
-                number: unsound.number(),
-                moved: Tallies::zero(),
-            }
+            unsound_told(unsound)
         }
+    }
+}
+
+// What C is told of stores that are not sound: 9, and nothing has moved.
+fn unsound_told(unsound: Unsound) -> Told
+    ensures { result ≡ record { number = 9; moved = zero_tallies } }
+{
+    Told {
+        number: unsound.number(),
+        moved: Tallies::zero(),
     }
 }
 

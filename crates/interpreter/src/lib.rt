@@ -5,12 +5,13 @@ ghost use Rattle.std.specs.Prelude.{◌≡◌};
 ghost use Rattle.model.specs.Runs.{look as looks};
 ghost use Rattle.prefix.specs.Bits.{bits};
 ghost use Rattle.pairs.specs.Pairs.{SoundPair};
+ghost use Rattle.answers.specs.declared.Said.TheVariants.{Refused};
 ghost use Rattle.interpreter.specs.Lines.{said_of, CallAnswered, LineAnswered, call_of};
 
 use answers::Said;
 use lookup::Answer;
 use script::Line;
-use sizes::refusal::Refusal as _;
+use sizes::refusal::Refusal;
 use tallies::Tallies;
 use updates::{Action, Update};
 
@@ -43,6 +44,13 @@ fn uncounted(said: Said, t: Tallies) -> Answered
     Answered { said, tallies: t }
 }
 
+// A refusal is said by its number, whatever the stores were.
+fn refused<E: Refusal>(refusal: E, t: Tallies) -> Answered
+    ensures { result ≡ record { said = Refused (E.number refusal); tallies = t } }
+{
+    uncounted(Said::Refused(refusal.number()), t)
+}
+
 fn look_up(table: &[u32], cache: &mut [u32], t: Tallies, address: u32) -> Answered
     ensures { SoundPair table.now cache.old → CallAnswered table.now cache.old table.now cache.new t (looks (bits 32 address)) result }
 {
@@ -51,7 +59,7 @@ fn look_up(table: &[u32], cache: &mut [u32], t: Tallies, address: u32) -> Answer
             said: said_of(looked.answer),
             tallies: looked.tallies,
         },
-        Err(unsound) => uncounted(Said::Refused(unsound.number()), t),
+        Err(unsound) => refused(unsound, t),
     }
 }
 
@@ -74,6 +82,6 @@ fn update(table: &mut [u32], cache: &mut [u32], t: Tallies, u: Update) -> Answer
             said: Said::Done(updated.removed, updated.changed),
             tallies: updated.tallies,
         },
-        Err(refused) => uncounted(Said::Refused(refused.number()), t),
+        Err(refusal) => refused(refusal, t),
     }
 }
