@@ -85,7 +85,7 @@ module _ (w : List ℕ) (h : Header) (stop : Stop) (r : Route) (sought : Sought 
   adds cell l b =
       record { header = header; node_in_use = omega (arith, at.beyond_in, header.2); cell_in_use = l; short = sought.short; its_hop = sought.its_hop; belongs = b }
 
-  adds_first : stop.last ≡ 0 → Adds w h 0 stop.beyond r.prefix.address r.prefix.length r.hop
+  pub adds_first : stop.last ≡ 0 → Adds w h 0 stop.beyond r.prefix.address r.prefix.length r.hop
   adds_first z = adds 0 (omega arith) (λ s. belongs_first w r.prefix.address r.prefix.length sought.short stop at s (landed_first w r.prefix.address r.prefix.length sought.short stop at s z) z)
 
   module _ (pos : 0 < stop.last) where

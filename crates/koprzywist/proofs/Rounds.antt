@@ -75,7 +75,7 @@ module _ {block table cache out t c o : List ℕ} (at : ℕ) (tallies : Tallies)
     pub all_written : length out ≡ length out₀ → p.at ≤ at → AllAnswered block table₀ cache₀ out₀ t c o t₀ (record { end = p.at; tallies = p.tallies })
     all_written same h = record { lines = and_round p K lines; none_left = λ size. all_taken h (omega (arith, same, size)) }
 
-    not_written : FirstAnswered block table₀ cache₀ out₀ t c o t₀
+    pub not_written : FirstAnswered block table₀ cache₀ out₀ t c o t₀
     not_written = record { reached = record { end = p.at; tallies = p.tallies }; lines = and_round p K lines }
 
     -- where the write failed
